@@ -1,0 +1,5 @@
+pub mod Codes
+pub mod Message
+pub mod Filter
+pub mod Channel
+pub mod Device
