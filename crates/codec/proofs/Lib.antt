@@ -1,0 +1,9 @@
+pub mod Tests
+pub mod Lists
+pub mod Word
+pub mod Lawful
+pub mod Many
+pub mod Columns
+pub mod Place
+pub mod Store
+pub mod Loop
