@@ -139,10 +139,11 @@ filterCode o type mask pattern =
     ∷ (leb 10 (free (o .filters)), 0x0C)
     ∷ [])
 
+-- type 1 passes, type 2 blocks
 unfoldable pub filterOf : ℕ → List ℕ → List ℕ → Filter
 filterOf type mask pattern =
     record {
-      type = type;
+      block = eqb type 2;
       wide = wideOf mask;
       size = sizeOf mask;
       mask = twelve (dataOf mask);

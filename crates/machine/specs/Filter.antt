@@ -39,9 +39,9 @@ anySlot p (some a ∷ s) = p a || anySlot p s
 
 -- ---- filters
 
--- type is 1 (pass) or 2 (block); mask and pattern are twelve bytes, zeros after the size
+-- a pass or a block filter; mask and pattern are twelve bytes, zeros after the size
 pub record Filter : Type 0 where
-  pub type : ℕ
+  pub block : Bool
   pub wide : Bool
   pub size : ℕ
   pub mask : List ℕ
@@ -54,10 +54,13 @@ matches wide bytes f =
     Bool·beq wide (f .wide)
     && allBelow (f .size) (λ k. eqb (bitAnd (getD bytes k 0) (getD (f .mask) k 0)) (getD (f .pattern) k 0))
 
--- some filter of this type matches
-unfoldable pub hits : ℕ → Slots Filter → Bool → List ℕ → Bool
-hits type fs wide bytes = anySlot (λ f. eqb (f .type) type && matches wide bytes f) fs
+-- some pass filter matches; some block filter does
+unfoldable pub passed : Slots Filter → Bool → List ℕ → Bool
+passed fs wide bytes = anySlot (λ f. not (f .block) && matches wide bytes f) fs
+
+unfoldable pub blocked : Slots Filter → Bool → List ℕ → Bool
+blocked fs wide bytes = anySlot (λ f. f .block && matches wide bytes f) fs
 
 -- THE VERDICT. Some pass filter matches and no block filter does
 unfoldable pub passes : Slots Filter → Bool → List ℕ → Bool
-passes fs wide bytes = hits 1 fs wide bytes && not (hits 2 fs wide bytes)
+passes fs wide bytes = passed fs wide bytes && not (blocked fs wide bytes)
