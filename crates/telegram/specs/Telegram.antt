@@ -2,7 +2,7 @@
 -- how each lies in bytes, and how bytes are read. Assumes nothing.
 use Prim.Native.Nat.{ℕ, _+_, _*_, _/_, _%_}
 use mathlib.Core.Bool.{Bool, true, false, not, _&&_, _||_}
-use mathlib.Core.Option.{Option, none, some}
+use mathlib.Core.Option.{Option, none, some, Option·map}
 use mathlib.Core.List.{List, [], _∷_}
 use lib.ListN.{length, getD, drop}
 use lib.Dec.{eqb, leb}
@@ -37,10 +37,14 @@ unfoldable pub isNegative : ℕ → Bool
 isNegative kind = within 0xD6 0xD8 kind
 
 -- what each field may be
-unfoldable pub openingFits : Opening → Bool
-openingFits (setUp d rx app) = isDestination d && (isId rx && isApplication app)
-openingFits (positive d tx rx app) = isDestination d && (isId tx && (isId rx && isApplication app))
-openingFits (negative d kind rest) = isDestination d && (isNegative kind && (eqb (length rest) 5 && areBytes rest))
+unfoldable pub fieldsFit : Opening → Bool
+fieldsFit (setUp d rx app) = isDestination d && (isId rx && isApplication app)
+fieldsFit (positive d tx rx app) = isDestination d && (isId tx && (isId rx && isApplication app))
+fieldsFit (negative d kind rest) = isDestination d && (isNegative kind && (eqb (length rest) 5 && areBytes rest))
+
+-- the same, with the identifier that carries it
+unfoldable pub openingFits : ℕ → Opening → Bool
+openingFits id o = isOpeningId id && fieldsFit o
 
 -- how it lies in bytes
 unfoldable pub openingBytes : Opening → List ℕ
@@ -48,18 +52,26 @@ openingBytes (setUp d rx app) = d ∷ 0xC0 ∷ 0x00 ∷ 0x10 ∷ rx % 256 ∷ rx
 openingBytes (positive d tx rx app) = d ∷ 0xD0 ∷ tx % 256 ∷ tx / 256 ∷ rx % 256 ∷ rx / 256 ∷ app ∷ []
 openingBytes (negative d kind rest) = d ∷ kind ∷ rest
 
--- the opening telegram of an identifier and bytes, where they are one
-unfoldable pub readOpening : ℕ → List ℕ → Option Opening
-readOpening id b =
+-- the number of two bytes, the lower one first
+unfoldable pub idAt : List ℕ → ℕ → ℕ
+idAt b at = getD b at 0 + 256 * getD b (at + 1) 0
+
+-- 7 bytes with a destination, by their second byte: the fixed bytes of a set-up say that its TX-ID isn't given
+unfoldable pub openingOf : List ℕ → Option Opening
+openingOf b =
     let d : ℕ = getD b 0 0 in
     let kind : ℕ = getD b 1 0 in
-    let tx : ℕ = getD b 2 0 + 256 * getD b 3 0 in
-    let rx : ℕ = getD b 4 0 + 256 * getD b 5 0 in
+    let unset : Bool = eqb (getD b 2 0) 0x00 && eqb (getD b 3 0) 0x10 in
+    let tx : ℕ = idAt b 2 in
+    let rx : ℕ = idAt b 4 in
     let app : ℕ = getD b 6 0 in
-    let good : Bool = isOpeningId id && (eqb (length b) 7 && isDestination d) in
-    if eqb kind 0xC0 then onlyIf (good && (eqb tx 0x1000 && (isId rx && isApplication app))) (setUp d rx app)
-    else if eqb kind 0xD0 then onlyIf (good && (isId tx && (isId rx && isApplication app))) (positive d tx rx app)
-    else onlyIf (good && isNegative kind) (negative d kind (drop 2 b))
+    if eqb kind 0xC0 then onlyIf (unset && (isId rx && isApplication app)) (setUp d rx app)
+    else if eqb kind 0xD0 then onlyIf (isId tx && (isId rx && isApplication app)) (positive d tx rx app)
+    else onlyIf (isNegative kind) (negative d kind (drop 2 b))
+
+-- the opening telegram of an identifier and bytes, where they are one
+unfoldable pub readOpening : ℕ → List ℕ → Option Opening
+readOpening id b = if isOpeningId id && (eqb (length b) 7 && isDestination (getD b 0 0)) then openingOf b else none
 
 -- ---- a telegram on a channel
 
@@ -112,6 +124,35 @@ readChannel (h ∷ rest) =
     else if eqb h 0xA4 then onlyIf alone breakOff
     else if eqb h 0xA8 then onlyIf alone disconnection
     else none
+
+-- ---- a telegram of either sort
+
+-- an opening one carries its identifier, one on a channel doesn't
+pub data AnyTelegram : Type 0 where
+  opening : (identifier : ℕ) → Opening → AnyTelegram
+  channel : Telegram → AnyTelegram
+
+-- what each field may be
+unfoldable pub anyFits : AnyTelegram → Bool
+anyFits (opening id o) = openingFits id o
+anyFits (channel t) = fits t
+
+-- how it lies in bytes
+unfoldable pub anyBytes : AnyTelegram → List ℕ
+anyBytes (opening id o) = openingBytes o
+anyBytes (channel t) = onWire t
+
+-- t is of the sort that the caller says, and an opening one has that identifier
+unfoldable pub comes : Bool → ℕ → AnyTelegram → Bool
+comes true id (opening i o) = eqb i id
+comes true id (channel t) = false
+comes false id (opening i o) = false
+comes false id (channel t) = true
+
+-- the caller says which sort it is; on a channel the identifier plays no part
+unfoldable pub readAny : Bool → ℕ → List ℕ → Option AnyTelegram
+readAny true id b = Option·map (opening id) (readOpening id b)
+readAny false id b = Option·map channel (readChannel b)
 
 -- ---- time bytes
 

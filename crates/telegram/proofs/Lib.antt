@@ -1,0 +1,4 @@
+pub mod Tests
+pub mod Channel
+pub mod Opening
+pub mod RoundTrip
