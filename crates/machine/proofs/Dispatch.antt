@@ -11,7 +11,7 @@ use native.Mathlib.Omega.{arith}
 use borrow.Author.Tests.{eqb-true, eqb-false, eq-eqb, ne-eqb, lt-ltb, le-ltb, leb-true, leb-false, le-leb}
 use lib.ListN.{length, getD, set, length-set, List·getD-eq-default}
 use lib.Seq.{getD-set-same, getD-set-other, set-out, ext-getD}
-use lib.Dec.{eqb, leb, ltb, T, leb→le, eqb·suc-suc}
+use lib.Dec.{eqb, leb, ltb, T, leb→le, ltb→lt, eqb·suc-suc}
 use Rattle.codec.specs.Plain.{if_then_else_, within}
 use Rattle.machine.specs.Channel.{Chan, closed, Call, Answer, says, lent, onCall, onConnect, onFrame, onAdvance}
 use Rattle.machine.specs.Device.{Device, Event, connect, call, frame, advance, close, chanAt, touches, speaker, ownAnswer, chanStep, clockAfter, chansAfter, after, answerBy, answer, step, run, answers}
@@ -56,6 +56,10 @@ and-left : (a b : Bool) → T (a && b) → T a
 and-left true b t = tt
 and-left false b t = t
 
+and-right : (a b : Bool) → T (a && b) → T b
+and-right true b t = t
+and-right false b t = absurd t
+
 -- a speaker that a test lets in: the test holds, and it is the one named
 let-in : (b : Bool) (m i : ℕ) → (if b then some m else none) ≡ some i → T b × (m ≡ i)
 let-in true m i h = (tt, cc)
@@ -73,6 +77,16 @@ speaker-only (advance t) i h = λ line. cc
 speaker-only close i h = λ line. cc
 
 -- the channels that answer are those of the four lines
+pub speaker-four : (e : Event) (i : ℕ) → speaker e ≡ some i → i < 4
+unfolding speaker within
+speaker-four (connect l p f r) i h = let q = let-in (ltb l 4) l i h in omega (arith, ltb→lt l 4 (q .0), q .1)
+speaker-four (call k x) i h =
+    let q = let-in (leb 1 k && leb k 4) (k - 1) i h in
+    omega (arith, leb→le 1 k (and-left (leb 1 k) (leb k 4) (q .0)), leb→le k 4 (and-right (leb 1 k) (leb k 4) (q .0)), q .1)
+speaker-four (frame l w n b) i h = let z : _≡_ {A = ℕ} 0 1 = cc in omega arith
+speaker-four (advance t) i h = let z : _≡_ {A = ℕ} 0 1 = cc in omega arith
+speaker-four close i h = let z : _≡_ {A = ℕ} 0 1 = cc in omega arith
+
 pub connect-speaker : (l p f r : ℕ) → l < 4 → speaker (connect l p f r) ≡ some l
 unfolding speaker
 connect-speaker l p f r h = rw (lt-ltb l 4 h)

@@ -3,3 +3,4 @@ pub mod Message
 pub mod Filter
 pub mod Channel
 pub mod Device
+pub mod Demands
