@@ -10,10 +10,11 @@ use native.Mathlib.Numerals.{add-one}
 use native.Mathlib.Omega.{arith}
 use borrow.Author.Tests.{eqb-true, eqb-false, eq-eqb, ne-eqb, lt-ltb, le-ltb, leb-true, leb-false, le-leb}
 use lib.ListN.{length, getD, set, length-set, List·getD-eq-default}
-use lib.Seq.{getD-set-same, getD-set-other, set-out, ext-getD}
+use lib.Seq.{getD-set-same, getD-set-other, set-getD, set-out, ext-getD}
 use lib.Dec.{eqb, leb, ltb, T, leb→le, ltb→lt, eqb·suc-suc}
+use Rattle.codec.proofs.Tests.{left, right}
 use Rattle.codec.specs.Plain.{if_then_else_, within}
-use Rattle.machine.specs.Channel.{Chan, closed, Call, Answer, says, lent, onCall, onConnect, onFrame, onAdvance}
+use Rattle.machine.specs.Channel.{Chan, closed, Call, Answer, says, lent, Outcome, onCall, onConnect, onFrame, onAdvance}
 use Rattle.machine.specs.Device.{Device, Event, connect, call, frame, advance, close, chanAt, touches, speaker, ownAnswer, chanStep, clockAfter, chansAfter, after, answerBy, answer, step, run, answers}
 
 -- ---- which channels an event touches
@@ -52,14 +53,6 @@ clock-stays close line now h = refl
 
 -- ---- who answers
 
-and-left : (a b : Bool) → T (a && b) → T a
-and-left true b t = tt
-and-left false b t = t
-
-and-right : (a b : Bool) → T (a && b) → T b
-and-right true b t = t
-and-right false b t = absurd t
-
 -- a speaker that a test lets in: the test holds, and it is the one named
 let-in : (b : Bool) (m i : ℕ) → (if b then some m else none) ≡ some i → T b × (m ≡ i)
 let-in true m i h = (tt, cc)
@@ -71,7 +64,7 @@ unfolding speaker within
 speaker-only (connect l p f r) i h = subst (Only (connect l p f r)) (let-in (ltb l 4) l i h .1) (connect-only l p f r)
 speaker-only (call k x) i h =
     let q = let-in (leb 1 k && leb k 4) (k - 1) i h in
-    subst (λ (n : ℕ). Only (call n x) i) (omega (arith, leb→le 1 k (and-left (leb 1 k) (leb k 4) (q .0)), q .1)) (call-only i x)
+    subst (λ (n : ℕ). Only (call n x) i) (omega (arith, leb→le 1 k (left (leb 1 k) (leb k 4) (q .0)), q .1)) (call-only i x)
 speaker-only (frame l w n b) i h = λ line. cc
 speaker-only (advance t) i h = λ line. cc
 speaker-only close i h = λ line. cc
@@ -82,7 +75,7 @@ unfolding speaker within
 speaker-four (connect l p f r) i h = let q = let-in (ltb l 4) l i h in omega (arith, ltb→lt l 4 (q .0), q .1)
 speaker-four (call k x) i h =
     let q = let-in (leb 1 k && leb k 4) (k - 1) i h in
-    omega (arith, leb→le 1 k (and-left (leb 1 k) (leb k 4) (q .0)), leb→le k 4 (and-right (leb 1 k) (leb k 4) (q .0)), q .1)
+    omega (arith, leb→le 1 k (left (leb 1 k) (leb k 4) (q .0)), leb→le k 4 (right (leb 1 k) (leb k 4) (q .0)), q .1)
 speaker-four (frame l w n b) i h = let z : _≡_ {A = ℕ} 0 1 = cc in omega arith
 speaker-four (advance t) i h = let z : _≡_ {A = ℕ} 0 1 = cc in omega arith
 speaker-four close i h = let z : _≡_ {A = ℕ} 0 1 = cc in omega arith
@@ -99,6 +92,10 @@ pub call-speaker : (i : ℕ) (x : Call) → i < 4 → speaker (call (i + 1) x) �
 unfolding speaker within
 call-speaker i x h = rw (le-leb 1 (i + 1) (omega arith), le-leb (i + 1) 4 (omega arith)) (ap some (omega arith))
 
+pub call-heard : (k : ℕ) (x : Call) → within 1 4 k ≡ true → speaker (call k x) ≡ some (k - 1)
+unfolding speaker
+call-heard k x h = rw h
+
 pub call-nobody : (k : ℕ) (x : Call) → within 1 4 k ≡ false → speaker (call k x) ≡ none
 unfolding speaker
 call-nobody k x h = rw h
@@ -112,6 +109,14 @@ same-device p q = λ j. record { clock = p j; chans = q j }
 -- the device with another channel at a line
 abbrev pub withChan : ℕ → Chan → Device → Device
 withChan line c d = record { clock = d .clock; chans = set (d .chans) line c }
+
+-- nothing changes with the channel that is there, nor with any channel past the last
+pub withChan-same : (line : ℕ) (d : Device) → withChan line (chanAt line d) d ≡ d
+unfolding chanAt
+withChan-same line d = same-device refl (set-getD (d .chans) line closed)
+
+pub withChan-beyond : (line : ℕ) (c : Chan) (d : Device) → length (d .chans) ≤ line → withChan line c d ≡ d
+withChan-beyond line c d out = same-device refl (set-out (d .chans) line c out)
 
 module _ (rates : List ℕ) where
   -- each channel of the list, the first being that of `line`
@@ -201,7 +206,7 @@ module _ (rates : List ℕ) where
 
   -- a line that the device does not have
   pub after-beyond : (d : Device) (e : Event) (i : ℕ) → Only e i → length (d .chans) ≤ i → after rates d e ≡ d
-  after-beyond d e i only out = after-one d e i only ∙ ap (λ cs. record { clock = d .clock; chans = cs }) (set-out (d .chans) i _ out)
+  after-beyond d e i only out = after-one d e i only ∙ withChan-beyond i _ d out
 
   pub after-all : (d : Device) (e : Event) → ((line : ℕ) → touches e line ≡ true)
       → after rates d e ≡ record { clock = clockAfter (d .clock) e; chans = map (λ c. chanStep rates (d .clock) c e .0) (d .chans) }
@@ -237,6 +242,16 @@ module _ (rates : List ℕ) where
       → step rates d (call (i + 1) x) ≡ (withChan i (onCall rates (d .clock) (chanAt i d) x .0) d, onCall rates (d .clock) (chanAt i d) x .1)
   unfolding chanStep
   step-call d i x h = step-spoken d (call (i + 1) x) i (call-speaker i x h)
+
+  -- what holds of a call's outcome on its channel holds of the device's step
+  pub call-carried : (P : Chan → Answer → Type 0) (d : Device) (i : ℕ) (x : Call) → i < 4 → i < length (d .chans)
+      → P (onCall rates (d .clock) (chanAt i d) x .0) (onCall rates (d .clock) (chanAt i d) x .1)
+      → P (chanAt i (step rates d (call (i + 1) x) .0)) (step rates d (call (i + 1) x) .1)
+  unfolding chanAt
+  call-carried P d i x h here p =
+      let x′ : Outcome = onCall rates (d .clock) (chanAt i d) x in
+      subst (λ (s : Device × Answer). P (chanAt i (s .0)) (s .1)) (sym (step-call d i x h))
+      (subst (λ (c : Chan). P c (x′ .1)) (sym (getD-set-same (d .chans) i (x′ .0) closed here)) p)
 
   pub step-frame : (d : Device) (l w n : ℕ) (b : List ℕ)
       → step rates d (frame l w n b) ≡ (withChan l (onFrame (d .clock) (chanAt l d) w n b) d, ownAnswer rates (frame l w n b))

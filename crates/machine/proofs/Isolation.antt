@@ -5,7 +5,7 @@ use mathlib.Core.Path.{_≡_, refl, sym, ap, ap₂, _∙_, subst}
 use mathlib.Core.Logic.{_≢_, _⊎_, inl, inr, ⊎-elim}
 use mathlib.Core.Bool.{Bool, true, false, true≢false}
 use mathlib.Core.Option.{Option, none, some}
-use mathlib.Core.List.{List, [], _∷_, _++_}
+use mathlib.Core.List.{List, [], _∷_}
 use native.Mathlib.Omega.{arith}
 use borrow.Author.Tests.{eqb-true, eq-eqb}
 use lib.ListN.{length}
@@ -14,7 +14,7 @@ use lib.Dec.{T, eqb→eq, lit<}
 use Rattle.codec.specs.Plain.{if_then_else_}
 use Rattle.machine.specs.Channel.{Chan, closed, Answer}
 use Rattle.machine.specs.Device.{Device, Event, connect, call, frame, advance, close, powerOn, chanAt, touches, speaker, chanStep, clockAfter, after, answer, step, run, answers}
-use Rattle.machine.specs.Demands.{FourChannels, concerns, strike, answersOf, Alike, Apart, Names, byCall, byConnect, byFrame}
+use Rattle.machine.specs.Demands.{FourChannels, concerns, strike, answersOf, Alike, Projected, Apart, Exchanged, SameToEach, Arranged, Ignored, Names, byCall, byConnect, byFrame}
 use Rattle.machine.proofs.Dispatch.{speaker-only, speaker-four, clock-stays, same-device, channels-kept, chan-after, chan-stays, none-move, answer-spoken, answer-own, run-channels-kept}
 
 -- ---- the dispatcher against demand 3's words
@@ -91,18 +91,13 @@ module _ (rates : List ℕ) where
 
   -- ---- the projection
 
-  -- on `d` all events run, on `d′` only those that concern channel i: it receives the same answers, and ends with the same state and clock
-  pub record Projected (i : ℕ) (d d′ : Device) (es : List Event) : Type 0 where
-    pub receives : answersOf rates i d es ≡ answers rates d′ (strike i es)
-    pub ends : Alike i (run rates d es) (run rates d′ (strike i es))
-
   -- DEMAND 3, projection, from any two devices that show channel i the same
-  pub projection : (i : ℕ) (es : List Event) (d d′ : Device) → Alike i d d′ → Projected i d d′ es
+  pub projection : (i : ℕ) (es : List Event) (d d′ : Device) → Alike i d d′ → Projected rates i d d′ es
   unfolding strike answersOf answers run
   projection i [] d d′ a = record { receives = refl; ends = a }
   projection i (e ∷ es) d d′ a = by (concerns i e) refl (projection i es)
     where
-      by : (b : Bool) → concerns i e ≡ b → ((d₁ d₂ : Device) → Alike i d₁ d₂ → Projected i d₁ d₂ es) → Projected i d d′ (e ∷ es)
+      by : (b : Bool) → concerns i e ≡ b → ((d₁ d₂ : Device) → Alike i d₁ d₂ → Projected rates i d₁ d₂ es) → Projected rates i d d′ (e ∷ es)
       by true h more =
           let q = more (step rates d e .0) (step rates d′ e .0) (stepped i d d′ e a) in
           record {
@@ -115,28 +110,23 @@ module _ (rates : List ℕ) where
 
   -- DEMAND 3, projection, from any device: strike out of any sequence all that does not concern a channel, and the channel receives the same
   -- answers and ends with the same state and clock
-  pub projection-from : (i : ℕ) (es : List Event) (d : Device) → i < length (d .chans) → Projected i d d es
+  pub projection-from : (i : ℕ) (es : List Event) (d : Device) → i < length (d .chans) → Projected rates i d d es
   projection-from i es d h = projection i es d d (record { clock = refl; chan = refl; here = h; there = h })
 
   -- DEMAND 3, projection, from power-on, for each of the four channels
-  pub projection-from-power-on : (i : ℕ) (es : List Event) → i < 4 → Projected i powerOn powerOn es
+  pub projection-from-power-on : (i : ℕ) (es : List Event) → i < 4 → Projected rates i powerOn powerOn es
   unfolding powerOn
   projection-from-power-on i es h = projection-from i es powerOn h
 
   -- ---- events that concern no channel
 
-  -- the device stays, and the answer is the same on every device
-  pub record Ignored (d : Device) (e : Event) : Type 0 where
-    pub device : step rates d e .0 ≡ d
-    pub answer : (d′ : Device) → step rates d e .1 ≡ step rates d′ e .1
-
   -- DEMAND 3. An event that concerns none of the four channels, as a call that names none, changes nothing, and no state shows in its answer
-  pub ignored : (d : Device) (e : Event) → FourChannels d → ((i : ℕ) → i < 4 → concerns i e ≡ false) → Ignored d e
+  pub ignored : (d : Device) (e : Event) → FourChannels d → ((i : ℕ) → i < 4 → concerns i e ≡ false) → Ignored rates d e
   unfolding step
   ignored d e four out =
       record {
         device = none-move rates d e (clock-stays e 0 (d .clock) (untouched 0 (lit< tt))) (λ line k. untouched line (omega arith));
-        answer = λ d′. by d′ (speaker e) refl;
+        reply = λ d′. by d′ (speaker e) refl;
       }
     where
       untouched : (i : ℕ) → i < 4 → touches e i ≡ false
@@ -190,24 +180,16 @@ module _ (rates : List ℕ) where
 
   -- DEMAND 3, exchange. Two neighbouring events that concern no channel both change places, anywhere in a sequence and from any device: the
   -- whole device ends the same, and each event gets the same answer
-  pub record Exchanged (d : Device) (xs : List Event) (e e′ : Event) (ys : List Event) : Type 0 where
-    pub device : run rates d (xs ++ e ∷ e′ ∷ ys) ≡ run rates d (xs ++ e′ ∷ e ∷ ys)
-    pub first : Answer
-    pub second : Answer
-    pub later : List Answer
-    pub one-way : answers rates d (xs ++ e ∷ e′ ∷ ys) ≡ answers rates d xs ++ first ∷ second ∷ later
-    pub other-way : answers rates d (xs ++ e′ ∷ e ∷ ys) ≡ answers rates d xs ++ second ∷ first ∷ later
-
-  pub exchange : (d : Device) (xs : List Event) (e e′ : Event) (ys : List Event) → FourChannels d → Apart e e′ → Exchanged d xs e e′ ys
+  pub exchange : (d : Device) (xs : List Event) (e e′ : Event) (ys : List Event) → FourChannels d → Apart e e′ → Exchanged rates d xs e e′ ys
   unfolding run answers step
   exchange d [] e e′ ys four h =
       let same = swapped-device d e e′ four h in
       let rest = answers rates (after rates (after rates d e) e′) ys in
       record {
         device = ap (λ (x : Device). run rates x ys) same;
-        first = answer rates d e;
-        second = answer rates d e′;
-        later = rest;
+        to-e = answer rates d e;
+        to-e′ = answer rates d e′;
+        to-ys = rest;
         one-way = ap (λ (a : Answer). answer rates d e ∷ a ∷ rest) (swapped-answer d e′ e (λ i k t t′. h i k t′ t));
         other-way = ap₂ {C = List Answer} (λ (a : Answer) (x : Device). answer rates d e′ ∷ a ∷ answers rates x ys) (swapped-answer d e e′ h) (sym same);
       }
@@ -215,23 +197,18 @@ module _ (rates : List ℕ) where
       let q = exchange (after rates d x) xs e e′ ys (channels-kept rates d x ∙ four) h in
       record {
         device = q .device;
-        first = q .first;
-        second = q .second;
-        later = q .later;
+        to-e = q .to-e;
+        to-e′ = q .to-e′;
+        to-ys = q .to-ys;
         one-way = ap (λ (r : List Answer). answer rates d x ∷ r) (q .one-way);
         other-way = ap (λ (r : List Answer). answer rates d x ∷ r) (q .other-way);
       }
 
   -- ---- arrangements
 
-  -- two sequences, from one device, that are the same to each channel: the whole device ends the same, and each channel receives the same
-  pub record Arranged (d : Device) (es zs : List Event) : Type 0 where
-    pub device : run rates d es ≡ run rates d zs
-    pub receives : (i : ℕ) → i < 4 → answersOf rates i d es ≡ answersOf rates i d zs
-
   -- DEMAND 3, arrangements. Any two sequences that leave each of the four channels the same events, in the same order, when the others' are
   -- struck out, end in the same device, and each channel receives the same answers. The sequences may hold frames, advances and closes too
-  pub arranged : (d : Device) (es zs : List Event) → FourChannels d → ((i : ℕ) → i < 4 → strike i es ≡ strike i zs) → Arranged d es zs
+  pub arranged : (d : Device) (es zs : List Event) → FourChannels d → SameToEach es zs → Arranged rates d es zs
   unfolding chanAt
   arranged d es zs four same =
       record {
@@ -242,7 +219,7 @@ module _ (rates : List ℕ) where
         receives = λ i k. part i k es .receives ∙ ap (answers rates d) (same i k) ∙ sym (part i k zs .receives);
       }
     where
-      part : (i : ℕ) → i < 4 → (es : List Event) → Projected i d d es
+      part : (i : ℕ) → i < 4 → (es : List Event) → Projected rates i d d es
       part i k es = projection-from i es d (omega arith)
 
       clock : (i : ℕ) → i < 4 → run rates d es .clock ≡ run rates d zs .clock
@@ -251,7 +228,7 @@ module _ (rates : List ℕ) where
       chan : (i : ℕ) → i < 4 → chanAt i (run rates d es) ≡ chanAt i (run rates d zs)
       chan i k = part i k es .ends .chan ∙ ap (λ (l : List Event). chanAt i (run rates d l)) (same i k) ∙ sym (part i k zs .ends .chan)
 
-  pub arranged-from-power-on : (es zs : List Event) → ((i : ℕ) → i < 4 → strike i es ≡ strike i zs) → Arranged powerOn es zs
+  pub arranged-from-power-on : (es zs : List Event) → SameToEach es zs → Arranged rates powerOn es zs
   unfolding powerOn
   arranged-from-power-on es zs same = arranged powerOn es zs refl same
 

@@ -1,2 +1,4 @@
 pub mod Dispatch
 pub mod Isolation
+pub mod Refusals
+pub mod Counts
