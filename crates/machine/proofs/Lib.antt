@@ -2,3 +2,4 @@ pub mod Dispatch
 pub mod Isolation
 pub mod Refusals
 pub mod Counts
+pub mod Traces

@@ -1,0 +1,5 @@
+-- Worked traces of the machine. Assumes nothing.
+pub mod Words
+pub mod Connecting
+pub mod Messages
+pub mod Filtering
