@@ -3,3 +3,6 @@ pub mod Sizes
 pub mod Places
 pub mod Region
 pub mod Entry
+pub mod Rows
+pub mod Held
+pub mod Good
