@@ -97,7 +97,7 @@ unfolding body via such both dataParts dataFits within
 body-make b lo hi t = let small : length b < 2 ^ 32 = omega arith in search (join, word-ok, row-make b (length b) refl hi t, row-ends, eqb-refl, le→leb)
 
 -- its width is one that the connection takes, and its identifier in that width's range
-widths-make : (flags : ℕ) (wide : Bool) (b : List ℕ) → idOf b ≤ idLimit wide → T (takes flags wide) → T (widthFits flags wide b)
+pub widths-make : (flags : ℕ) (wide : Bool) (b : List ℕ) → idOf b ≤ idLimit wide → T (takes flags wide) → T (widthFits flags wide b)
 unfolding widthFits
 widths-make flags wide b h t = search (join, le→leb)
 
@@ -106,10 +106,16 @@ unfolding word32
 small-status n t = of-member (λ n. T (ltb n (2 ^ 32))) _ (tt, (tt, (tt, (tt, tt)))) n t
 
 -- a record to read
-pub in-make : (flags now rx : ℕ) (b : List ℕ) → now < 2 ^ 32 → T (member rx (0 ∷ 1 ∷ 0x100 ∷ 0x101 ∷ [])) → T (body .ok b) → T (widthFits flags (bit 0x100 rx) b)
+in-make : (flags now rx : ℕ) (b : List ℕ) → now < 2 ^ 32 → T (member rx (0 ∷ 1 ∷ 0x100 ∷ 0x101 ∷ [])) → T (body .ok b) → T (widthFits flags (bit 0x100 rx) b)
     → T (inCell flags .ok (received now rx b))
 unfolding inCell incoming received rec36 such via both word32
 in-make flags now rx b h x t w = search (join, lt→ltb, small-status) depth 9
+
+-- a frame received
+pub frame-make : (flags now : ℕ) (wide : Bool) (b : List ℕ) → now < 2 ^ 32 → T (body .ok b) → T (widthFits flags wide b) → T (inCell flags .ok (received now (widthFlag wide) b))
+unfolding widthFlag bit member
+frame-make flags now true b h t w = in-make flags now 0x100 b h tt t w
+frame-make flags now false b h t w = in-make flags now 0 b h tt t w
 
 -- a record to send
 pub out-make : (flags : ℕ) (wide : Bool) (b : List ℕ) → T (body .ok b) → T (widthFits flags wide b)

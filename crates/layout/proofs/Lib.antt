@@ -6,3 +6,4 @@ pub mod Entry
 pub mod Rows
 pub mod Held
 pub mod Good
+pub mod Reach
