@@ -56,17 +56,12 @@ within-high from to n t = leb→le n to (right (leb from n) (leb n to) t)
 
 -- ---- a configuration
 
-small-flags : (n : ℕ) → T (isFlags n) → T (word32 .ok n)
-unfolding isFlags word32
-small-flags n t = of-member (λ n. T (ltb n (2 ^ 32))) _ (tt, (tt, (tt, (tt, tt)))) n t
-
-small-rate : (n : ℕ) → T (member n threeRates) → T (word32 .ok n)
-unfolding threeRates word32
-small-rate n t = of-member (λ n. T (ltb n (2 ^ 32))) _ (tt, (tt, (tt, tt))) n t
-
 pub config-make : (c : Config) → T (isFlags (c .flags)) → T (member (c .rate) threeRates) → T (config .ok c)
-unfolding config configFits such via both
-config-make c f r = search (join, small-flags, small-rate, mark-ok)
+unfolding config configFits such via both isFlags threeRates word32
+config-make c f r =
+    let flags = of-member (λ (n : ℕ). T (ltb n (2 ^ 32))) _ (tt, (tt, (tt, (tt, tt)))) (c .flags) f in
+    let rate = of-member (λ (n : ℕ). T (ltb n (2 ^ 32))) _ (tt, (tt, (tt, tt))) (c .rate) r in
+    search (join, mark-ok)
 
 pub config-flags : (c : Config) → T (config .ok c) → T (isFlags (c .flags))
 unfolding config configFits such via both
@@ -101,15 +96,13 @@ pub widths-make : (flags : ℕ) (wide : Bool) (b : List ℕ) → idOf b ≤ idLi
 unfolding widthFits
 widths-make flags wide b h t = search (join, le→leb)
 
-small-status : (n : ℕ) → T (member n (0 ∷ 1 ∷ 0x100 ∷ 0x101 ∷ [])) → T (word32 .ok n)
-unfolding word32
-small-status n t = of-member (λ n. T (ltb n (2 ^ 32))) _ (tt, (tt, (tt, (tt, tt)))) n t
-
 -- a record to read
 in-make : (flags now rx : ℕ) (b : List ℕ) → now < 2 ^ 32 → T (member rx (0 ∷ 1 ∷ 0x100 ∷ 0x101 ∷ [])) → T (body .ok b) → T (widthFits flags (bit 0x100 rx) b)
     → T (inCell flags .ok (received now rx b))
 unfolding inCell incoming received rec36 such via both word32
-in-make flags now rx b h x t w = search (join, lt→ltb, small-status) depth 9
+in-make flags now rx b h x t w =
+    let status = of-member (λ (n : ℕ). T (ltb n (2 ^ 32))) _ (tt, (tt, (tt, (tt, tt)))) rx x in
+    search (join, lt→ltb) depth 9
 
 -- a frame received
 pub frame-make : (flags now : ℕ) (wide : Bool) (b : List ℕ) → now < 2 ^ 32 → T (body .ok b) → T (widthFits flags wide b) → T (inCell flags .ok (received now (widthFlag wide) b))

@@ -6,4 +6,5 @@ pub mod Entry
 pub mod Rows
 pub mod Held
 pub mod Good
+pub mod Calls
 pub mod Reach
