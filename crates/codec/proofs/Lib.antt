@@ -5,5 +5,6 @@ pub mod Lawful
 pub mod Many
 pub mod Columns
 pub mod Place
+pub mod Cells
 pub mod Store
 pub mod Loop
