@@ -26,10 +26,10 @@ pub fn copy(d: &mut [u8], s: &[u8])
     requires { ⌜ length (now d) ≡ length (now s) ⌝ }
     ensures { λ r. ⌜ now (d .exit) ≡ now (s .entry) ⌝ }
 {
-    let mut i = 0;
-    while i < d.len() {
-        d[i] = s[i];
-        i += 1;
+    let mut at = 0;
+    while at < d.len() {
+        d[at] = s[at];
+        at += 1;
     }
 }
 
@@ -123,16 +123,16 @@ pub fn put_word(s: &mut [u8], v: u32)
 }
 
 // An identifier as four bytes, highest first.
-pub fn put_id(s: &mut [u8], v: u32)
+pub fn put_id(s: &mut [u8], id: u32)
     requires { ⌜ length (now s) ≡ 4 ⌝ }
-    ensures { λ r. ⌜ now (s .exit) ≡ idBytes v ⌝ }
+    ensures { λ r. ⌜ now (s .exit) ≡ idBytes id ⌝ }
 {
     put_four(
         s,
-        low(v / 0x100_0000),
-        low(v / 0x1_0000),
-        low(v / 0x100),
-        low(v),
+        low(id / 0x100_0000),
+        low(id / 0x1_0000),
+        low(id / 0x100),
+        low(id),
     );
 }
 

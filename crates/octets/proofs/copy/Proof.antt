@@ -24,15 +24,15 @@ shared-slice-read-d c = omega arith
 slice-write-d : tie.Need-slice-write-d Inv-loop μ-loop
 slice-write-d c = omega arith
 
-add-i : tie.Need-add-i Inv-loop μ-loop
-add-i c = omega arith
+add-at : tie.Need-add-at Inv-loop μ-loop
+add-at c = omega arith
 
 loop-less : tie.Need-loop-less Inv-loop μ-loop
 loop-less c = omega arith
 
 loop-again : tie.Need-loop-again Inv-loop μ-loop
 loop-again c =
-    let i = c .before .before .loop .i in
+    let i = c .before .before .loop .at in
     let s = c .before .before .before .args .s .now in
     let d₀ = c .before .before .before .args .d .now in
     let inv = c .before .before .loop .inv in (
@@ -46,7 +46,7 @@ same-length c = c .before .loop .inv .2
 
 returns : tie.Need-returns Inv-loop μ-loop
 returns c =
-    let i = c .before .loop .i in
+    let i = c .before .loop .at in
     let s = c .before .before .args .s .now in
     let d₀ = c .before .before .args .d .now in
     c .before .loop .inv .0
@@ -54,4 +54,4 @@ returns c =
     ∙ append-nil s
 
 pub copy-spec : {M : Type 1} → statement M
-copy-spec = tie.close (tie.spec Inv-loop μ-loop loop-holds shared-slice-read-d slice-write-d add-i loop-less loop-again same-length returns)
+copy-spec = tie.close (tie.spec Inv-loop μ-loop loop-holds shared-slice-read-d slice-write-d add-at loop-less loop-again same-length returns)
