@@ -54,13 +54,10 @@ matches wide bytes f =
     Bool·beq wide (f .wide)
     && allBelow (f .size) (λ k. eqb (bitAnd (getD bytes k 0) (getD (f .mask) k 0)) (getD (f .pattern) k 0))
 
--- some pass filter matches; some block filter does
-unfoldable pub passed : Slots Filter → Bool → List ℕ → Bool
-passed fs wide bytes = anySlot (λ f. not (f .block) && matches wide bytes f) fs
-
-unfoldable pub blocked : Slots Filter → Bool → List ℕ → Bool
-blocked fs wide bytes = anySlot (λ f. f .block && matches wide bytes f) fs
+-- some filter of this kind matches
+unfoldable pub hits : Bool → Slots Filter → Bool → List ℕ → Bool
+hits block fs wide bytes = anySlot (λ f. Bool·beq (f .block) block && matches wide bytes f) fs
 
 -- THE VERDICT. Some pass filter matches and no block filter does
 unfoldable pub passes : Slots Filter → Bool → List ℕ → Bool
-passes fs wide bytes = passed fs wide bytes && not (blocked fs wide bytes)
+passes fs wide bytes = hits false fs wide bytes && not (hits true fs wide bytes)
