@@ -1,0 +1,5 @@
+-- What the contracts and laws of this crate cite.
+pub mod Number
+pub mod Laws
+pub mod Place
+pub mod Reader
