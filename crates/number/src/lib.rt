@@ -12,46 +12,51 @@ pub enum Number {
     Bad,
 }
 
-// A byte as a number that sums of groups fit.
+// The largest number that counts.
+const LARGEST: u64 = 4294967295;
+
+// How often the fifth group counts, 128 to the power of 4.
+const FIFTH: u64 = 268435456;
+
+// A byte, wide enough for sums of groups.
 fn wide(x: u8) -> u64
     ensures { λ r. ⌜ (r ≡ x) × (r < 256) ⌝ }
 {
     x as u64
 }
 
-// The number at a place of a slice.
-fn number_at(s: &[u8], at: usize) -> Number
-    ensures { λ r. ⌜ r ≡ numberAt (now (s .entry)) at ⌝ }
+// The number at a place of a slice of bytes.
+fn number_at(bytes: &[u8], at: usize) -> Number
+    ensures { λ r. ⌜ r ≡ numberAt (now (bytes .entry)) at ⌝ }
 {
     let mut place = at;
     let mut value: u64 = 0;
     let mut unit: u64 = 1;
-    while place < s.len() {
-        let group = wide(s[place]);
+    while place < bytes.len() {
+        let byte = wide(bytes[place]);
         place += 1;
-        if group < 128 {
-            let whole = value + group * unit;
-            if (group == 0) & (unit > 1) {
+        value += byte % 128 * unit;
+        if byte < 128 {
+            if (byte == 0) & (unit > 1) {
                 return Number::Bad;
             }
-            if whole > 4294967295 {
+            if value > LARGEST {
                 return Number::Bad;
             }
             return Number::Value {
-                value: whole as u32,
+                value: value as u32,
                 next: place,
             };
         }
-        if unit == 268435456 {
+        if unit == FIFTH {
             return Number::Bad;
         }
-        value += (group - 128) * unit;
         unit *= 128;
     }
     Number::Bad
 }
 
-// A recording and a place in it. What reads through it is proved by hand, so it takes the two apart and leaves the work to `number_at`.
+// A recording and a place in it. Its functions take the two apart and leave the work to `number_at`.
 pub struct Reader<'a> {
     pub recording: &'a [u8],
     pub at: usize,
@@ -80,13 +85,13 @@ pub fn read_number(recording: &[u8], at: usize) -> Number
     Reader::new(recording, at).next_number()
 }
 
-// A number is written from a place on, in as many bytes as it takes. The place after them is given.
-pub fn put_number(out: &mut [u8], at: usize, v: u32) -> usize
-    requires { ⌜ at + length (bytesOf v) ≤ length (now out) ⌝ }
-    ensures { λ r. ⌜ Written (now (out .entry)) at v r (now (out .exit)) ⌝ }
+// Writes a number from a place on, in as many bytes as it takes, and gives the place after them.
+pub fn put_number(out: &mut [u8], at: usize, value: u32) -> usize
+    requires { ⌜ at + length (bytesOf value) ≤ length (now out) ⌝ }
+    ensures { λ r. ⌜ Written (now (out .entry)) at value r (now (out .exit)) ⌝ }
 {
     let mut place = at;
-    let mut rest = v;
+    let mut rest = value;
     while rest > 127 {
         out[place] = (128 + rest % 128) as u8;
         rest /= 128;
