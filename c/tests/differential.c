@@ -1,0 +1,233 @@
+/* The core against the twin: `differential [SEED [ROUNDS]]`. Everything is repeatable; the same seed makes the same run.
+ * Any difference is told on standard error and ends the program with status 1. */
+#include <stdio.h>
+#include <stdlib.h>
+#include <string.h>
+
+#include "../../include/trawlpepper.h"
+#include "../twin/twin.h"
+#include "support.h"
+
+enum { REGION = 2498, EVENTS = 400 };
+
+static unsigned long counted[KINDS + 1][0x20];
+
+/* the memory needs more room than a lent buffer has */
+static uint8_t core_room[GUARD + TRAWL_MEMORY + GUARD], twin_room[GUARD + TRAWL_MEMORY + GUARD];
+static uint8_t *const core = core_room + GUARD, *const twin = twin_room + GUARD;
+
+static void guard_memories(void) {
+    for (int i = 0; i < GUARD; i++)
+        core_room[i] = twin_room[i] = core_room[GUARD + TRAWL_MEMORY + i] = twin_room[GUARD + TRAWL_MEMORY + i] = (uint8_t)(0x5A + i);
+}
+
+static int memory_guarded(const uint8_t *room) {
+    for (int i = 0; i < GUARD; i++)
+        if (room[i] != (uint8_t)(0x5A + i) || room[GUARD + TRAWL_MEMORY + i] != (uint8_t)(0x5A + i)) return 0;
+    return 1;
+}
+
+/* 01's own distinction of refusals and results */
+static int refused(const event *e, reply r) {
+    if (r.code == 0x00 || r.code == 0x09 || r.code == 0x12) return 0;
+    return !(e->kind == WRITE && r.value > 0);
+}
+
+/* one event on both: same code, value, buffers and memory; a refusal changes nothing; guards stay */
+static reply both(event *e, uint64_t turn) {
+    static uint8_t before[TRAWL_MEMORY];
+    static event mine;
+    reply a, b;
+    mine = *e;
+    memcpy(before, core, TRAWL_MEMORY);
+    a = on_core(core, TRAWL_MEMORY, &mine);
+    if (refused(e, a)) {
+        if (memcmp(before, core, TRAWL_MEMORY)) fail("a refusal changed the memory", e, turn);
+        if (memcmp(mine.first.room, e->first.room, sizeof mine.first.room)) fail("a refusal changed a buffer", e, turn);
+    }
+    b = on_twin(twin, TRAWL_MEMORY, e);
+    if (a.code != b.code) fail("code", e, turn);
+    if (a.value != b.value) fail("value", e, turn);
+    if (!guarded(&mine.first) || !guarded(&mine.second)) fail("guard bytes of a buffer", e, turn);
+    if (!memory_guarded(core_room)) fail("guard bytes of the memory", e, turn);
+    if (memcmp(mine.first.room, e->first.room, sizeof mine.first.room) || memcmp(mine.second.room, e->second.room, sizeof mine.second.room))
+        fail("buffer", e, turn);
+    if (memcmp(core, twin, TRAWL_MEMORY)) fail("memory", e, turn);
+    counted[e->kind][a.code & 0x1F]++;
+    return a;
+}
+
+static void power_on(void) {
+    for (size_t i = 0; i < TRAWL_MEMORY; i++) core[i] = twin[i] = (uint8_t)any();
+    if (trawl_power_on(core, TRAWL_MEMORY) != 0 || twin_power_on(twin, TRAWL_MEMORY) != 0) fail("power-on", NULL, 0);
+    if (memcmp(core, twin, TRAWL_MEMORY)) fail("power-on's memory", NULL, 0);
+}
+
+/* ---- random sequences on four channels ---- */
+
+static void sequences(uint32_t rounds) {
+    static event e;
+    for (uint32_t r = 0; r < rounds; r++) {
+        int damage = (int)(r % 4) * 8;
+        power_on();
+        for (uint32_t line = 0; line < 4; line++) {
+            memset(&e, 0, sizeof e);
+            lend(&e.first, 0), lend(&e.second, 0);
+            e.kind = CONNECT, e.a = line, e.b = 5, e.c = (uint32_t[]){0, 0x100, 0x800, 0x900}[(line + r) % 4], e.d = 500000;
+            if (chance(80)) both(&e, r);
+        }
+        for (uint32_t i = 0; i < EVENTS; i++) {
+            random_event(&e, damage);
+            both(&e, (uint64_t)r * EVENTS + i);
+        }
+        if (!trawl_valid(core, TRAWL_MEMORY)) fail("a reached memory is not valid", NULL, r);
+    }
+}
+
+/* a box in which everything is held somewhere */
+static void busy(void) {
+    static event e;
+    power_on();
+    for (uint32_t i = 0; i < 6000; i++) {
+        random_event(&e, 2);
+        if (e.kind == CLOSE || e.kind == DISCONNECT || (e.kind == CLEAR && chance(80))) continue;
+        if ((e.kind == READ || e.kind == SENT || e.kind == STOP_FILTER || e.kind == STOP_PERIODIC) && chance(70)) continue;
+        both(&e, i);
+    }
+}
+
+/* ---- damaged memories ---- */
+
+static void same_verdict(size_t length, const char *what, uint64_t turn) {
+    static uint8_t before[TRAWL_MEMORY + 64];
+    static event e, mine;
+    int good = twin_valid(core, length);
+    if ((trawl_valid(core, length) != 0) != good) fail(what, NULL, turn);
+    if (good) return;
+    random_event(&e, 5);
+    mine = e;
+    memcpy(before, core, TRAWL_MEMORY);
+    if (on_core(core, length, &mine).code != 0x1A) fail("0x1A was not given", &e, turn);
+    if (memcmp(before, core, TRAWL_MEMORY)) fail("0x1A changed the memory", &e, turn);
+    if (memcmp(&mine, &e, sizeof e)) fail("0x1A changed a buffer", &e, turn);
+}
+
+static void damaged(uint32_t rounds) {
+    for (uint32_t r = 0; r < rounds; r++) {
+        busy();
+        for (size_t i = 0; i < TRAWL_MEMORY; i++) {
+            uint8_t was = core[i];
+            uint8_t to[4] = {0, 1, (uint8_t)(was ^ (1u << below(8))), (uint8_t)any()};
+            for (int k = 0; k < 4; k++) {
+                if (to[k] == was) continue;
+                core[i] = to[k];
+                same_verdict(TRAWL_MEMORY, "verdict on one changed byte", i);
+            }
+            core[i] = was;
+        }
+        for (uint32_t i = 0; i < 2000; i++) {
+            memcpy(twin, core, TRAWL_MEMORY);
+            for (uint32_t k = 2 + below(4); k > 0; k--) core[below(TRAWL_MEMORY)] = (uint8_t)(chance(50) ? below(3) : any());
+            same_verdict(TRAWL_MEMORY, "verdict on several changed bytes", i);
+            memcpy(core, twin, TRAWL_MEMORY);
+        }
+        for (size_t n = 0; n <= TRAWL_MEMORY; n += n < 40 || n > TRAWL_MEMORY - 40 ? 1 : 997) {
+            if (n != TRAWL_MEMORY) same_verdict(n, "verdict on another length", n);
+            if (n != TRAWL_MEMORY && trawl_power_on(core, n) != 0x1A) fail("power-on of another length", NULL, n);
+        }
+        for (uint32_t i = 0; i < 500; i++) {
+            for (size_t k = 0; k < TRAWL_MEMORY; k++) core[k] = (uint8_t)any();
+            same_verdict(TRAWL_MEMORY, "verdict on random bytes", i);
+        }
+    }
+}
+
+/* ---- short buffers at every call, on open and closed channels ---- */
+
+static void short_buffers(void) {
+    static event e;
+    busy();
+    for (int kind = START_FILTER; kind <= TAKE; kind++)
+        for (uint32_t n = 0; n <= 80; n++)
+            for (uint32_t channel = 0; channel <= 5; channel++) {
+                memset(&e, 0, sizeof e);
+                e.kind = kind, e.a = channel, e.b = kind == START_FILTER ? 1 : kind == START_PERIODIC ? 5 : n % 4;
+                lend(&e.first, n), lend(&e.second, kind == START_FILTER && n % 3 ? 36 : n);
+                both(&e, n);
+            }
+}
+
+/* ---- demand 3 as an experiment ---- */
+
+static int concerns(uint32_t line, const event *e) {
+    if (e->kind == CONNECT || e->kind == FRAME) return e->a == line;
+    if (e->kind == ADVANCE || e->kind == CLOSE) return 1;
+    return e->a == line + 1;
+}
+
+static int named(const event *e, uint32_t *line) {
+    if (e->kind == ADVANCE || e->kind == CLOSE) return 0;
+    *line = e->kind == CONNECT || e->kind == FRAME ? e->a : e->a - 1;
+    return 1;
+}
+
+static void isolation(uint32_t rounds) {
+    static event es[EVENTS], e;
+    static reply rs[EVENTS];
+    static uint8_t whole[TRAWL_MEMORY];
+    static lent buffers[EVENTS];
+    for (uint32_t r = 0; r < rounds; r++) {
+        memset(core, 0, TRAWL_MEMORY);
+        for (int i = 0; i < EVENTS; i++) {
+            random_event(&es[i], 5);
+            e = es[i];
+            rs[i] = on_core(core, TRAWL_MEMORY, &e);
+            buffers[i] = e.first;
+        }
+        memcpy(whole, core, TRAWL_MEMORY);
+        for (uint32_t line = 0; line < 4; line++) {
+            memset(core, 0, TRAWL_MEMORY);
+            for (int i = 0; i < EVENTS; i++) {
+                reply x;
+                if (!concerns(line, &es[i])) continue;
+                e = es[i];
+                x = on_core(core, TRAWL_MEMORY, &e);
+                if (x.code != rs[i].code || x.value != rs[i].value) fail("struck out: an answer", &es[i], r);
+                if (memcmp(&e.first, &buffers[i], sizeof e.first)) fail("struck out: a buffer", &es[i], r);
+            }
+            if (memcmp(core, whole, 4) || memcmp(core + 4 + line * REGION, whole + 4 + line * REGION, REGION)) fail("struck out: what it holds", NULL, r);
+        }
+        for (int k = 0; k < 20; k++) {
+            int at = (int)below(EVENTS - 1);
+            uint32_t p, q;
+            if (!named(&es[at], &p) || !named(&es[at + 1], &q) || p == q) continue;
+            memset(core, 0, TRAWL_MEMORY);
+            for (int i = 0; i < EVENTS; i++) {
+                int j = i == at ? at + 1 : i == at + 1 ? at : i;
+                reply x;
+                e = es[j];
+                x = on_core(core, TRAWL_MEMORY, &e);
+                if (x.code != rs[j].code || x.value != rs[j].value) fail("exchanged: an answer", &es[j], r);
+                if (memcmp(&e.first, &buffers[j], sizeof e.first)) fail("exchanged: a buffer", &es[j], r);
+            }
+            if (memcmp(core, whole, TRAWL_MEMORY)) fail("exchanged: the memory", NULL, r);
+        }
+    }
+}
+
+int main(int argc, char **argv) {
+    uint32_t rounds = argc > 2 ? (uint32_t)strtoul(argv[2], NULL, 10) : 1;
+    unsigned long total = 0, codes = 0;
+    seed = argc > 1 ? strtoull(argv[1], NULL, 10) : 1;
+    if (seed == 0) seed = 1;
+    if (rounds == 0) rounds = 1;
+    guard_memories();
+    sequences(100 * rounds);
+    damaged(rounds);
+    short_buffers();
+    isolation(20 * rounds);
+    for (int k = 1; k <= KINDS; k++)
+        for (int c = 0; c < 0x20; c++) total += counted[k][c], codes += counted[k][c] != 0;
+    printf("core and twin agree: %lu calls, %lu pairs of call and code, verdicts on damaged memories, short buffers, isolation\n", total, codes);
+    return 0;
+}

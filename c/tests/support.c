@@ -1,0 +1,211 @@
+/* See support.h. */
+#include "support.h"
+
+#include <stdio.h>
+#include <stdlib.h>
+#include <string.h>
+
+#include "../../include/trawlpepper.h"
+#include "../twin/twin.h"
+
+uint64_t seed = 1;
+
+uint32_t any(void) {
+    seed ^= seed >> 12;
+    seed ^= seed << 25;
+    seed ^= seed >> 27;
+    return (uint32_t)((seed * 0x2545F4914F6CDD1Dull) >> 32);
+}
+
+uint32_t below(uint32_t n) { return (uint32_t)(((uint64_t)any() * n) >> 32); }
+
+int chance(uint32_t percent) { return below(100) < percent; }
+
+uint32_t one_of(const uint32_t *from, size_t n) { return from[below((uint32_t)n)]; }
+
+#define ONE_OF(...) one_of((const uint32_t[]){__VA_ARGS__}, sizeof((const uint32_t[]){__VA_ARGS__}) / sizeof(uint32_t))
+
+/* ---- lent buffers ---- */
+
+static uint8_t guard_byte(size_t i) { return (uint8_t)(0xA5 ^ i); }
+
+uint8_t *bytes(lent *b) { return b->room + GUARD; }
+
+void lend(lent *b, size_t n) {
+    if (n > ROOM) n = ROOM;
+    b->n = n;
+    for (size_t i = 0; i < GUARD; i++) b->room[i] = guard_byte(i), b->room[GUARD + n + i] = guard_byte(GUARD + i);
+    for (size_t i = 0; i < n; i++) bytes(b)[i] = (uint8_t)any();
+}
+
+int guarded(const lent *b) {
+    for (size_t i = 0; i < GUARD; i++)
+        if (b->room[i] != guard_byte(i) || b->room[GUARD + b->n + i] != guard_byte(GUARD + i)) return 0;
+    return 1;
+}
+
+/* ---- records ---- */
+
+static void word(uint8_t *p, uint32_t v) {
+    for (int i = 0; i < 4; i++) p[i] = (uint8_t)(v >> 8 * i);
+}
+
+void record_at(uint8_t *p, uint32_t flags, uint32_t identifier, uint32_t n) {
+    word(p, 5), word(p + 4, any()), word(p + 8, flags), word(p + 12, any()), word(p + 16, 4 + n), word(p + 20, any());
+    for (int i = 0; i < 4; i++) p[24 + i] = (uint8_t)(identifier >> (24 - 8 * i));
+    for (int i = 28; i < 36; i++) p[i] = (uint8_t)below(3);
+}
+
+static uint32_t some_flags(void) { return ONE_OF(0, 0, 0, 0x100, 0x100, 0x1FF, 0x40, 0x80000100u); }
+
+static uint32_t some_id(uint32_t flags) {
+    if (flags & 0x100) return ONE_OF(0, 0x7E8, 0x18DAF110, 0x1FFFFFFF);
+    return ONE_OF(0, 0x7E8, 0x7E9, 0x7DF, 0x7FF);
+}
+
+static void some_message(uint8_t *p, int damage) {
+    uint32_t flags = some_flags();
+    record_at(p, flags, some_id(flags), below(9));
+    if (chance((uint32_t)damage)) word(p + ONE_OF(0, 8, 16, 24), ONE_OF(0, 1, 3, 4, 5, 6, 12, 13, 0x100, 0x800, 0xFF, 0xFFFFFFFF, any()));
+}
+
+/* a filter's mask and pattern: like a message, but of any size 1 to 12 and with few different bytes, so that frames match */
+static void some_pair(uint8_t *mask, uint8_t *pattern, int damage) {
+    uint32_t flags = ONE_OF(0, 0, 0, 0x100, 0x100, 0x140), size = 1 + below(12), id = some_id(flags);
+    record_at(mask, flags, ONE_OF(0, 0, 0x700, 0x7FF, 0xFFFFFFFF, 0x1FFFFFFF), 0);
+    record_at(pattern, flags, id, 0);
+    word(mask + 16, size), word(pattern + 16, size);
+    for (int i = 24; i < 36; i++) {
+        if (i >= 28) mask[i] = (uint8_t)ONE_OF(0, 0, 0xFF, 1), pattern[i] = (uint8_t)below(3);
+        if (chance(90)) pattern[i] &= mask[i];
+    }
+    if (chance((uint32_t)damage)) some_message(chance(50) ? mask : pattern, 100);
+    if (chance((uint32_t)damage)) word((chance(50) ? mask : pattern) + 16, below(15));
+}
+
+/* ---- events ---- */
+
+const char *name_of(int kind) {
+    static const char *const names[] = {"-", "connect", "disconnect", "close", "advance", "frame", "start filter", "stop filter",
+                                        "start periodic", "stop periodic", "write", "read", "take", "sent", "clear", "get", "set"};
+    return names[kind];
+}
+
+static uint32_t off(uint32_t good, int damage) {
+    if (!chance((uint32_t)damage)) return good;
+    return ONE_OF(0, 1, 4, 5, 6, 10, 11, 255, 256, 257, 65535, 65536, 1000000, 1000001, 0x7FFFFFFF, 0xFFFFFFFF, any());
+}
+
+static uint32_t some_length(uint32_t good, int damage) {
+    if (!chance((uint32_t)damage)) return good + (chance(20) ? below(40) : 0);
+    return below(good + 2);
+}
+
+void random_event(event *e, int damage) {
+    static const int often[] = {CONNECT,    DISCONNECT,     ADVANCE, ADVANCE, FRAME, FRAME, FRAME, FRAME, FRAME, FRAME, FRAME, FRAME, START_FILTER,
+                                STOP_FILTER, START_PERIODIC, STOP_PERIODIC, WRITE, WRITE, READ,  READ,  TAKE,  TAKE,  SENT,  SENT,  CLEAR,
+                                GET,        SET,            SET,     START_FILTER, START_PERIODIC, CONNECT};
+    uint32_t channel = off(1 + below(4), damage / 4), flags, n;
+    memset(e, 0, sizeof *e);
+    e->kind = chance(1) ? (chance(10) ? CLOSE : DISCONNECT) : often[below(sizeof often / sizeof *often)];
+    if (e->kind == DISCONNECT && chance(80)) e->kind = FRAME;
+    lend(&e->first, 0), lend(&e->second, 0);
+    e->a = channel;
+    switch (e->kind) {
+    case CONNECT:
+        e->a = off(below(4), damage), e->b = off(5, damage), e->c = off(ONE_OF(0, 0x100, 0x800, 0x900), damage);
+        e->d = off(ONE_OF(125000, 250000, 500000), damage);
+        break;
+    case ADVANCE:
+        e->a = off(ONE_OF(0, 1, 999, 1000, 4999, 5000, 10000, 250000, 999999, 1000000), damage);
+        break;
+    case FRAME:
+        flags = some_flags();
+        e->a = off(below(4), damage / 4), e->b = off((flags & 0x100) != 0, damage / 4), e->c = off(some_id(flags), damage / 4);
+        lend(&e->first, chance((uint32_t)damage / 4) ? below(65) : below(9));
+        for (size_t i = 0; i < e->first.n; i++) bytes(&e->first)[i] = (uint8_t)below(3);
+        break;
+    case START_FILTER:
+        e->b = off(1 + below(2), damage);
+        lend(&e->first, some_length(36, damage / 2)), lend(&e->second, some_length(36, damage / 2));
+        if (e->first.n >= 36 && e->second.n >= 36) some_pair(bytes(&e->first), bytes(&e->second), damage);
+        break;
+    case STOP_FILTER:
+    case STOP_PERIODIC:
+        e->b = off(1 + below(10), damage);
+        break;
+    case START_PERIODIC:
+        e->b = off(ONE_OF(5, 5, 6, 10, 100, 1000, 65535), damage);
+        lend(&e->first, some_length(36, damage / 2));
+        if (e->first.n >= 36) some_message(bytes(&e->first), damage);
+        break;
+    case WRITE:
+        n = chance(5) ? 16 + below(20) : below(6);
+        lend(&e->first, some_length(36 * n, damage / 2));
+        for (uint32_t i = 0; 36 * (i + 1) <= e->first.n; i++) some_message(bytes(&e->first) + 36 * i, damage / 2);
+        e->b = off(n, damage / 4);
+        break;
+    case READ:
+        n = chance(20) ? below(70) : below(6);
+        lend(&e->first, some_length(36 * n, damage / 2));
+        e->b = off(n, damage / 4);
+        break;
+    case TAKE:
+        lend(&e->first, some_length(36, damage / 2));
+        break;
+    case CLEAR:
+        e->b = off(1 + below(4), damage);
+        break;
+    case GET:
+        e->b = off(ONE_OF(1, 3), damage);
+        break;
+    case SET:
+        e->b = off(ONE_OF(1, 3, 3), damage), e->c = off(e->b == 1 ? ONE_OF(125000, 250000, 500000) : below(2), damage);
+        break;
+    default:
+        break;
+    }
+}
+
+#define PLAY(side)                                                                                                                        \
+    reply on_##side(uint8_t *m, size_t length, event *e) {                                                                                \
+        reply r = {0, 0};                                                                                                                 \
+        uint8_t *p = bytes(&e->first), *q = bytes(&e->second);                                                                            \
+        size_t pn = e->first.n, qn = e->second.n;                                                                                         \
+        switch (e->kind) {                                                                                                                \
+        case CONNECT: r.code = CALL(connect)(m, length, e->a, e->b, e->c, e->d, &r.value); break;                                         \
+        case DISCONNECT: r.code = CALL(disconnect)(m, length, e->a); break;                                                               \
+        case CLOSE: r.code = CALL(close)(m, length); break;                                                                               \
+        case ADVANCE: r.code = CALL(advance)(m, length, e->a); break;                                                                     \
+        case FRAME: r.code = CALL(frame)(m, length, e->a, e->b, e->c, p, pn); break;                                                      \
+        case START_FILTER: r.code = CALL(start_filter)(m, length, e->a, e->b, p, pn, q, qn, &r.value); break;                             \
+        case STOP_FILTER: r.code = CALL(stop_filter)(m, length, e->a, e->b); break;                                                       \
+        case START_PERIODIC: r.code = CALL(start_periodic)(m, length, e->a, p, pn, e->b, &r.value); break;                                \
+        case STOP_PERIODIC: r.code = CALL(stop_periodic)(m, length, e->a, e->b); break;                                                   \
+        case WRITE: r.code = CALL(write)(m, length, e->a, e->b, p, pn, &r.value); break;                                                  \
+        case READ: r.code = CALL(read)(m, length, e->a, e->b, p, pn, &r.value); break;                                                    \
+        case TAKE: r.code = CALL(take)(m, length, e->a, p, pn); break;                                                                    \
+        case SENT: r.code = CALL(sent)(m, length, e->a); break;                                                                           \
+        case CLEAR: r.code = CALL(clear)(m, length, e->a, e->b); break;                                                                   \
+        case GET: r.code = CALL(get)(m, length, e->a, e->b, &r.value); break;                                                             \
+        case SET: r.code = CALL(set)(m, length, e->a, e->b, e->c); break;                                                                 \
+        default: break;                                                                                                                   \
+        }                                                                                                                                 \
+        return r;                                                                                                                         \
+    }
+
+#define CALL(f) trawl_##f
+PLAY(core)
+#undef CALL
+#define CALL(f) twin_##f
+PLAY(twin)
+#undef CALL
+
+void fail(const char *what, const event *e, uint64_t turn) {
+    fprintf(stderr, "differs: %s, turn %llu", what, (unsigned long long)turn);
+    if (e)
+        fprintf(stderr, ", %s(%u, %u, %u, %u), lent %u and %u bytes", name_of(e->kind), (unsigned)e->a, (unsigned)e->b, (unsigned)e->c,
+                (unsigned)e->d, (unsigned)e->first.n, (unsigned)e->second.n);
+    fprintf(stderr, "\n");
+    exit(1);
+}

@@ -1,0 +1,54 @@
+/* What the tests share: repeatable random numbers, lent buffers between guard bytes, records, and every call as one event that can be
+ * made on the core or on the twin. */
+#ifndef SUPPORT_H
+#define SUPPORT_H
+
+#include <stddef.h>
+#include <stdint.h>
+
+/* ---- random numbers ---- */
+
+extern uint64_t seed;
+uint32_t any(void);                            /* 32 bits */
+uint32_t below(uint32_t n);                    /* 0 to n - 1 */
+int chance(uint32_t percent);
+uint32_t one_of(const uint32_t *from, size_t n);
+
+/* ---- a lent buffer: exactly n bytes between guards ---- */
+
+enum { GUARD = 16, ROOM = 4096 };
+typedef struct {
+    uint8_t room[GUARD + ROOM + GUARD];
+    size_t n;
+} lent;
+uint8_t *bytes(lent *b);
+void lend(lent *b, size_t n); /* n bytes of noise */
+int guarded(const lent *b);   /* the guards are as they were */
+
+/* ---- events ---- */
+
+enum { CONNECT = 1, DISCONNECT, CLOSE, ADVANCE, FRAME, START_FILTER, STOP_FILTER, START_PERIODIC, STOP_PERIODIC, WRITE, READ, TAKE, SENT,
+       CLEAR, GET, SET, KINDS = SET };
+
+typedef struct {
+    int kind;
+    uint32_t a, b, c, d; /* the event's numbers, in the scope's order; a is the line or the channel */
+    lent first, second;  /* what it lends: mask, message, records, data or buffer; pattern */
+} event;
+
+typedef struct {
+    uint32_t code, value;
+} reply;
+
+const char *name_of(int kind);
+void random_event(event *e, int damage); /* damage: percent of numbers, records and lengths that are off */
+reply on_core(uint8_t *memory, size_t length, event *e);
+reply on_twin(uint8_t *memory, size_t length, event *e);
+
+/* a message record at p: protocol 5, these flags, an identifier and n data bytes */
+void record_at(uint8_t *p, uint32_t flags, uint32_t identifier, uint32_t n);
+
+/* tells what differs and ends the program with status 1 */
+void fail(const char *what, const event *e, uint64_t turn);
+
+#endif

@@ -1,0 +1,481 @@
+/* The twin: see twin.h. */
+#include "twin.h"
+
+#include <string.h>
+
+enum { FILTERS = 10, PERIODICS = 10, WRITTEN = 16, QUEUE = 32, RECORD = 36, ROW = 12 };
+
+/* ---- the memory as a struct of bytes, by docs/LAYOUT.md ---- */
+
+typedef struct {
+    uint8_t protocol[4], rx[4], tx[4], time[4], size[4], extra[4], data[ROW];
+} record;
+
+typedef struct {
+    uint8_t open, flags[4], rate[4], loopback;
+    uint8_t type[FILTERS], wide[FILTERS], size[FILTERS], mask[FILTERS][ROW], pattern[FILTERS][ROW];
+    uint8_t interval[PERIODICS][4], phase[PERIODICS][4], pending[PERIODICS];
+    record periodic[PERIODICS];
+    uint8_t written;
+    record out[WRITTEN];
+    uint8_t flying;
+    record flight;
+    uint8_t held;
+    record in[QUEUE];
+    uint8_t lost;
+} channel_t;
+
+typedef struct {
+    uint8_t clock[4];
+    channel_t line[4];
+} device_t;
+
+typedef char twin_size_is_right[sizeof(device_t) == TWIN_MEMORY ? 1 : -1];
+
+int twin_trusts = 0;
+
+static uint32_t get32(const uint8_t b[4]) {
+    return (uint32_t)b[0] | (uint32_t)b[1] << 8 | (uint32_t)b[2] << 16 | (uint32_t)b[3] << 24;
+}
+
+static void put32(uint8_t b[4], uint32_t v) {
+    b[0] = (uint8_t)v, b[1] = (uint8_t)(v >> 8), b[2] = (uint8_t)(v >> 16), b[3] = (uint8_t)(v >> 24);
+}
+
+static uint32_t identifier(const uint8_t b[4]) {
+    return (uint32_t)b[0] << 24 | (uint32_t)b[1] << 16 | (uint32_t)b[2] << 8 | (uint32_t)b[3];
+}
+
+static int zeros(const void *p, size_t n) {
+    const uint8_t *b = p;
+    uint8_t any = 0;
+    for (size_t i = 0; i < n; i++) any |= b[i];
+    return any == 0;
+}
+
+/* ---- widths ---- */
+
+static int takes(uint32_t flags, int wide) {
+    if (flags & 0x800) return 1;
+    return ((flags & 0x100) != 0) == (wide != 0);
+}
+
+static int in_range(uint32_t id, int wide) { return id <= (wide ? 0x1FFFFFFFu : 0x7FFu); }
+
+static int is_rate(uint32_t r) { return r == 125000 || r == 250000 || r == 500000; }
+
+static int is_flags(uint32_t f) { return (f & ~(uint32_t)0x900) == 0; }
+
+/* ---- validity: every stored number within its limit ---- */
+
+static int good_record(const record *r, uint32_t flags, int to_read) {
+    uint32_t rx = get32(r->rx), tx = get32(r->tx), size = get32(r->size);
+    int wide = ((to_read ? rx : tx) & 0x100) != 0;
+    if (get32(r->protocol) != 5 || size < 4 || size > 12 || get32(r->extra) != size) return 0;
+    if (to_read ? (rx & ~(uint32_t)0x101) != 0 || tx != 0 : rx != 0 || (tx & ~(uint32_t)0x100) != 0 || get32(r->time) != 0) return 0;
+    if (!in_range(identifier(r->data), wide) || !takes(flags, wide)) return 0;
+    return zeros(r->data + size, ROW - size);
+}
+
+static int good_store(const uint8_t *count, const record *r, unsigned most, uint32_t flags, int to_read) {
+    unsigned n = *count;
+    if (n > most) return 0;
+    for (unsigned i = 0; i < n; i++)
+        if (!good_record(&r[i], flags, to_read)) return 0;
+    return zeros(&r[n], (most - n) * sizeof *r);
+}
+
+static int good_filter(const channel_t *c, int i, uint32_t flags) {
+    unsigned n = c->size[i];
+    if (c->type[i] == 0) return c->wide[i] == 0 && n == 0 && zeros(c->mask[i], ROW) && zeros(c->pattern[i], ROW);
+    if (c->type[i] > 2 || c->wide[i] > 1 || n < 1 || n > ROW || !takes(flags, c->wide[i])) return 0;
+    return zeros(c->mask[i] + n, ROW - n) && zeros(c->pattern[i] + n, ROW - n);
+}
+
+static int good_periodic(const channel_t *c, int i, uint32_t flags) {
+    uint32_t interval = get32(c->interval[i]), phase = get32(c->phase[i]);
+    if (interval == 0) return phase == 0 && c->pending[i] == 0 && zeros(&c->periodic[i], RECORD);
+    if (interval < 5 || interval > 65535 || phase >= 1000 * interval || c->pending[i] > 1) return 0;
+    return good_record(&c->periodic[i], flags, 0);
+}
+
+static int good_channel(const channel_t *c) {
+    uint32_t flags = get32(c->flags);
+    if (c->open == 0) return zeros(c, sizeof *c);
+    if (c->open > 1 || !is_flags(flags) || !is_rate(get32(c->rate)) || c->loopback > 1 || c->lost > 1) return 0;
+    for (int i = 0; i < FILTERS; i++)
+        if (!good_filter(c, i, flags)) return 0;
+    for (int i = 0; i < PERIODICS; i++)
+        if (!good_periodic(c, i, flags)) return 0;
+    return good_store(&c->written, c->out, WRITTEN, flags, 0) && good_store(&c->flying, &c->flight, 1, flags, 0) &&
+           good_store(&c->held, c->in, QUEUE, flags, 1);
+}
+
+int twin_valid(const uint8_t *m, size_t len) {
+    const device_t *d = (const device_t *)m;
+    if (len != TWIN_MEMORY) return 0;
+    for (int i = 0; i < 4; i++)
+        if (!good_channel(&d->line[i])) return 0;
+    return 1;
+}
+
+/* ---- finding the channel: 0x1A, then 0x02 ---- */
+
+static device_t *device(uint8_t *m, size_t len) {
+    if (!twin_trusts && !twin_valid(m, len)) return NULL;
+    return (device_t *)m;
+}
+
+static uint32_t find(uint8_t *m, size_t len, uint32_t number, channel_t **c) {
+    device_t *d = device(m, len);
+    if (!d) return 0x1A;
+    if (number < 1 || number > 4 || !d->line[number - 1].open) return 0x02;
+    *c = &d->line[number - 1];
+    return 0;
+}
+
+static int shorter(size_t len, uint32_t n) { return (uint64_t)len < (uint64_t)RECORD * n; }
+
+/* ---- messages to send ---- */
+
+static uint32_t message_code(const record *r, uint32_t flags) {
+    uint32_t size = get32(r->size);
+    int wide = (get32(r->tx) & 0x100) != 0;
+    if (get32(r->protocol) != 5) return 0x15;
+    if (size < 4 || size > 12 || !takes(flags, wide) || !in_range(identifier(r->data), wide)) return 0x0A;
+    return 0;
+}
+
+static void fill(record *to, uint32_t rx, uint32_t tx, uint32_t time, const uint8_t *data, uint32_t size) {
+    memset(to, 0, sizeof *to);
+    put32(to->protocol, 5), put32(to->rx, rx), put32(to->tx, tx), put32(to->time, time);
+    put32(to->size, size), put32(to->extra, size);
+    memcpy(to->data, data, size);
+}
+
+static void clean(record *to, const record *from) {
+    fill(to, 0, get32(from->tx) & 0x100, 0, from->data, get32(from->size));
+}
+
+/* ---- the receive queue ---- */
+
+static void arrive(channel_t *c, uint32_t rx, uint32_t now, const uint8_t *data, uint32_t size) {
+    if (c->held == QUEUE) {
+        c->lost = 1;
+        return;
+    }
+    fill(&c->in[c->held++], rx, 0, now, data, size);
+}
+
+/* the first n records leave a store: the others move to its front, zeros behind them */
+static void drop(uint8_t *count, record *r, unsigned n) {
+    memmove(r, r + n, (*count - n) * sizeof *r);
+    memset(r + (*count - n), 0, n * sizeof *r);
+    *count = (uint8_t)(*count - n);
+}
+
+/* ---- power-on, connect, disconnect, close, advance ---- */
+
+uint32_t twin_power_on(uint8_t *m, size_t len) {
+    if (len != TWIN_MEMORY) return 0x1A;
+    memset(m, 0, len);
+    return 0;
+}
+
+uint32_t twin_connect(uint8_t *m, size_t len, uint32_t line, uint32_t protocol, uint32_t flags, uint32_t rate, uint32_t *channel) {
+    device_t *d = device(m, len);
+    *channel = 0;
+    if (!d) return 0x1A;
+    if (protocol != 5) return 0x03;
+    if (!is_flags(flags)) return 0x06;
+    if (!is_rate(rate)) return 0x19;
+    if (line > 3) return 0x13;
+    if (d->line[line].open) return 0x14;
+    d->line[line].open = 1;
+    put32(d->line[line].flags, flags);
+    put32(d->line[line].rate, rate);
+    *channel = line + 1;
+    return 0;
+}
+
+uint32_t twin_disconnect(uint8_t *m, size_t len, uint32_t channel) {
+    channel_t *c;
+    uint32_t code = find(m, len, channel, &c);
+    if (code) return code;
+    memset(c, 0, sizeof *c);
+    return 0;
+}
+
+uint32_t twin_close(uint8_t *m, size_t len) {
+    device_t *d = device(m, len);
+    if (!d) return 0x1A;
+    memset(d->line, 0, sizeof d->line);
+    return 0;
+}
+
+uint32_t twin_advance(uint8_t *m, size_t len, uint32_t us) {
+    device_t *d = device(m, len);
+    if (!d) return 0x1A;
+    if (us > 1000000) return 0x0B;
+    put32(d->clock, get32(d->clock) + us);
+    for (int l = 0; l < 4; l++) {
+        channel_t *c = &d->line[l];
+        if (!c->open) continue;
+        for (int i = 0; i < PERIODICS; i++) {
+            uint32_t period = 1000 * get32(c->interval[i]);
+            uint32_t phase = get32(c->phase[i]) + us;
+            if (period == 0) continue;
+            if (phase >= period) {
+                c->pending[i] = 1;
+                phase %= period;
+            }
+            put32(c->phase[i], phase);
+        }
+    }
+    return 0;
+}
+
+/* ---- filters and frames ---- */
+
+static int matches(const channel_t *c, int i, int wide, const uint8_t frame[ROW]) {
+    if (c->wide[i] != wide) return 0;
+    for (unsigned k = 0; k < c->size[i]; k++)
+        if ((frame[k] & c->mask[i][k]) != c->pattern[i][k]) return 0;
+    return 1;
+}
+
+static int let_in(const channel_t *c, int wide, const uint8_t frame[ROW]) {
+    int passed = 0;
+    for (int i = 0; i < FILTERS; i++) {
+        if (c->type[i] == 0 || !matches(c, i, wide, frame)) continue;
+        if (c->type[i] == 2) return 0;
+        passed = 1;
+    }
+    return passed;
+}
+
+uint32_t twin_frame(uint8_t *m, size_t len, uint32_t line, uint32_t wide, uint32_t id, const uint8_t *data, size_t n) {
+    device_t *d = device(m, len);
+    uint8_t frame[ROW] = {0};
+    channel_t *c;
+    if (!d) return 0x1A;
+    if (line > 3) return 0x13;
+    if (wide > 1 || !in_range(id, (int)wide) || n > 8) return 0x0A;
+    c = &d->line[line];
+    if (!c->open || !takes(get32(c->flags), (int)wide)) return 0;
+    frame[0] = (uint8_t)(id >> 24), frame[1] = (uint8_t)(id >> 16), frame[2] = (uint8_t)(id >> 8), frame[3] = (uint8_t)id;
+    if (n) memcpy(frame + 4, data, n);
+    if (let_in(c, (int)wide, frame)) arrive(c, wide ? 256 : 0, get32(d->clock), frame, 4 + (uint32_t)n);
+    return 0;
+}
+
+uint32_t twin_start_filter(uint8_t *m, size_t len, uint32_t channel, uint32_t type, const uint8_t *mask, size_t mask_len,
+                           const uint8_t *pattern, size_t pattern_len, uint32_t *number) {
+    const record *a = (const record *)mask, *b = (const record *)pattern;
+    channel_t *c;
+    uint32_t size, code = find(m, len, channel, &c);
+    int i;
+    *number = 0;
+    if (code) return code;
+    if (shorter(mask_len, 1) || shorter(pattern_len, 1)) return 0x04;
+    if (type != 1 && type != 2) return 0x16;
+    if (get32(a->protocol) != 5 || get32(b->protocol) != 5) return 0x15;
+    size = get32(a->size);
+    if (size != get32(b->size) || size < 1 || size > 12 || get32(a->tx) != get32(b->tx)) return 0x0A;
+    if (!takes(get32(c->flags), (get32(a->tx) & 0x100) != 0)) return 0x0A;
+    for (i = 0; i < FILTERS && c->type[i]; i++) {
+    }
+    if (i == FILTERS) return 0x0C;
+    c->type[i] = (uint8_t)type;
+    c->wide[i] = (get32(a->tx) & 0x100) != 0;
+    c->size[i] = (uint8_t)size;
+    memcpy(c->mask[i], a->data, size);
+    memcpy(c->pattern[i], b->data, size);
+    *number = (uint32_t)i + 1;
+    return 0;
+}
+
+uint32_t twin_stop_filter(uint8_t *m, size_t len, uint32_t channel, uint32_t number) {
+    channel_t *c;
+    uint32_t code = find(m, len, channel, &c);
+    if (code) return code;
+    if (number < 1 || number > FILTERS || !c->type[number - 1]) return 0x16;
+    c->type[number - 1] = c->wide[number - 1] = c->size[number - 1] = 0;
+    memset(c->mask[number - 1], 0, ROW);
+    memset(c->pattern[number - 1], 0, ROW);
+    return 0;
+}
+
+/* ---- periodics ---- */
+
+uint32_t twin_start_periodic(uint8_t *m, size_t len, uint32_t channel, const uint8_t *message, size_t message_len, uint32_t interval,
+                             uint32_t *number) {
+    channel_t *c;
+    uint32_t code = find(m, len, channel, &c);
+    int i;
+    *number = 0;
+    if (code) return code;
+    if (shorter(message_len, 1)) return 0x04;
+    if (interval < 5 || interval > 65535) return 0x0B;
+    code = message_code((const record *)message, get32(c->flags));
+    if (code) return code;
+    for (i = 0; i < PERIODICS && get32(c->interval[i]); i++) {
+    }
+    if (i == PERIODICS) return 0x0C;
+    put32(c->interval[i], interval);
+    put32(c->phase[i], 0);
+    c->pending[i] = 1;
+    clean(&c->periodic[i], (const record *)message);
+    *number = (uint32_t)i + 1;
+    return 0;
+}
+
+uint32_t twin_stop_periodic(uint8_t *m, size_t len, uint32_t channel, uint32_t number) {
+    channel_t *c;
+    uint32_t code = find(m, len, channel, &c);
+    if (code) return code;
+    if (number < 1 || number > PERIODICS || !get32(c->interval[number - 1])) return 0x0D;
+    put32(c->interval[number - 1], 0);
+    put32(c->phase[number - 1], 0);
+    c->pending[number - 1] = 0;
+    memset(&c->periodic[number - 1], 0, RECORD);
+    return 0;
+}
+
+/* ---- write, read, take, sent ---- */
+
+uint32_t twin_write(uint8_t *m, size_t len, uint32_t channel, uint32_t n, const uint8_t *b, size_t b_len, uint32_t *count) {
+    channel_t *c;
+    uint32_t code = find(m, len, channel, &c);
+    *count = 0;
+    if (code) return code;
+    if (shorter(b_len, n)) return 0x04;
+    for (uint32_t i = 0; i < n; i++) {
+        const record *r = (const record *)b + i;
+        code = message_code(r, get32(c->flags));
+        if (code) return code;
+        if (c->written == WRITTEN) return 0x11;
+        clean(&c->out[c->written++], r);
+        ++*count;
+    }
+    return 0;
+}
+
+uint32_t twin_read(uint8_t *m, size_t len, uint32_t channel, uint32_t n, uint8_t *b, size_t b_len, uint32_t *count) {
+    channel_t *c;
+    uint32_t moved, code = find(m, len, channel, &c);
+    int lost;
+    *count = 0;
+    if (code) return code;
+    if (shorter(b_len, n)) return 0x04;
+    if (n == 0) return 0;
+    moved = n < c->held ? n : c->held;
+    if (moved) memcpy(b, c->in, moved * sizeof *c->in);
+    drop(&c->held, c->in, moved);
+    lost = c->lost;
+    c->lost = 0;
+    *count = moved;
+    return lost ? 0x12 : moved == n ? 0x00 : moved == 0 ? 0x10 : 0x09;
+}
+
+uint32_t twin_take(uint8_t *m, size_t len, uint32_t channel, uint8_t *b, size_t b_len) {
+    channel_t *c;
+    uint32_t code = find(m, len, channel, &c);
+    if (code) return code;
+    if (shorter(b_len, 1)) return 0x04;
+    if (!c->flying) {
+        int i;
+        for (i = 0; i < PERIODICS && !c->pending[i]; i++) {
+        }
+        if (i < PERIODICS) {
+            c->pending[i] = 0;
+            c->flight = c->periodic[i];
+        } else if (c->written) {
+            c->flight = c->out[0];
+            drop(&c->written, c->out, 1);
+        } else {
+            return 0x10;
+        }
+        c->flying = 1;
+    }
+    memcpy(b, &c->flight, RECORD);
+    return 0;
+}
+
+uint32_t twin_sent(uint8_t *m, size_t len, uint32_t channel) {
+    channel_t *c;
+    uint32_t code = find(m, len, channel, &c);
+    if (code) return code;
+    if (!c->flying) return 0x07;
+    if (c->loopback)
+        arrive(c, get32(c->flight.tx) + 1, get32(((device_t *)m)->clock), c->flight.data, get32(c->flight.size));
+    c->flying = 0;
+    memset(&c->flight, 0, RECORD);
+    return 0;
+}
+
+/* ---- clear, get, set ---- */
+
+uint32_t twin_clear(uint8_t *m, size_t len, uint32_t channel, uint32_t kind) {
+    channel_t *c;
+    uint32_t code = find(m, len, channel, &c);
+    if (code) return code;
+    switch (kind) {
+    case 1:
+        c->written = 0;
+        memset(c->out, 0, sizeof c->out);
+        return 0;
+    case 2:
+        c->held = c->lost = 0;
+        memset(c->in, 0, sizeof c->in);
+        return 0;
+    case 3:
+        memset(c->interval, 0, sizeof c->interval);
+        memset(c->phase, 0, sizeof c->phase);
+        memset(c->pending, 0, sizeof c->pending);
+        memset(c->periodic, 0, sizeof c->periodic);
+        return 0;
+    case 4:
+        memset(c->type, 0, sizeof c->type);
+        memset(c->wide, 0, sizeof c->wide);
+        memset(c->size, 0, sizeof c->size);
+        memset(c->mask, 0, sizeof c->mask);
+        memset(c->pattern, 0, sizeof c->pattern);
+        return 0;
+    default:
+        return 0x0F;
+    }
+}
+
+uint32_t twin_get(uint8_t *m, size_t len, uint32_t channel, uint32_t parameter, uint32_t *value) {
+    channel_t *c;
+    uint32_t code = find(m, len, channel, &c);
+    *value = 0;
+    if (code) return code;
+    if (parameter == 1) {
+        *value = get32(c->rate);
+        return 0;
+    }
+    if (parameter == 3) {
+        *value = c->loopback;
+        return 0;
+    }
+    return 0x01;
+}
+
+uint32_t twin_set(uint8_t *m, size_t len, uint32_t channel, uint32_t parameter, uint32_t value) {
+    channel_t *c;
+    uint32_t code = find(m, len, channel, &c);
+    if (code) return code;
+    if (parameter == 1) {
+        if (!is_rate(value)) return 0x05;
+        put32(c->rate, value);
+        return 0;
+    }
+    if (parameter == 3) {
+        if (value > 1) return 0x05;
+        c->loopback = (uint8_t)value;
+        return 0;
+    }
+    return 0x01;
+}

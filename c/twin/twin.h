@@ -1,0 +1,35 @@
+/* The twin: a second implementation of the scope document in plain C99, written from the scope and docs/LAYOUT.md and from nothing else.
+ * It works on the same device memory, which it sees as a struct of bytes. The tests hold the proved core against it. */
+#ifndef TWIN_H
+#define TWIN_H
+
+#include <stddef.h>
+#include <stdint.h>
+
+#define TWIN_MEMORY 9996u
+
+int twin_valid(const uint8_t *m, size_t len);
+uint32_t twin_power_on(uint8_t *m, size_t len);
+uint32_t twin_connect(uint8_t *m, size_t len, uint32_t line, uint32_t protocol, uint32_t flags, uint32_t rate, uint32_t *channel);
+uint32_t twin_disconnect(uint8_t *m, size_t len, uint32_t channel);
+uint32_t twin_close(uint8_t *m, size_t len);
+uint32_t twin_advance(uint8_t *m, size_t len, uint32_t us);
+uint32_t twin_frame(uint8_t *m, size_t len, uint32_t line, uint32_t wide, uint32_t id, const uint8_t *data, size_t n);
+uint32_t twin_start_filter(uint8_t *m, size_t len, uint32_t channel, uint32_t type, const uint8_t *mask, size_t mask_len,
+                           const uint8_t *pattern, size_t pattern_len, uint32_t *number);
+uint32_t twin_stop_filter(uint8_t *m, size_t len, uint32_t channel, uint32_t number);
+uint32_t twin_start_periodic(uint8_t *m, size_t len, uint32_t channel, const uint8_t *message, size_t message_len, uint32_t interval,
+                             uint32_t *number);
+uint32_t twin_stop_periodic(uint8_t *m, size_t len, uint32_t channel, uint32_t number);
+uint32_t twin_write(uint8_t *m, size_t len, uint32_t channel, uint32_t n, const uint8_t *b, size_t b_len, uint32_t *count);
+uint32_t twin_read(uint8_t *m, size_t len, uint32_t channel, uint32_t n, uint8_t *b, size_t b_len, uint32_t *count);
+uint32_t twin_take(uint8_t *m, size_t len, uint32_t channel, uint8_t *b, size_t b_len);
+uint32_t twin_sent(uint8_t *m, size_t len, uint32_t channel);
+uint32_t twin_clear(uint8_t *m, size_t len, uint32_t channel, uint32_t kind);
+uint32_t twin_get(uint8_t *m, size_t len, uint32_t channel, uint32_t parameter, uint32_t *value);
+uint32_t twin_set(uint8_t *m, size_t len, uint32_t channel, uint32_t parameter, uint32_t value);
+
+/* While this is not 0 the calls above trust the memory and do not look whether it is valid: for comparing the inner calls. */
+extern int twin_trusts;
+
+#endif

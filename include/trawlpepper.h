@@ -1,0 +1,135 @@
+/* Trawlpepper: the core of a four-line pass-thru box (SAE J2534-1, raw CAN), proved.
+ *
+ * All state is one memory of TRAWL_MEMORY bytes that you lend to every call; docs/LAYOUT.md names each byte of it. Calls keep nothing else,
+ * allocate nothing and never block. A call's answer is a code (below); a number that goes with it comes back through a pointer, which is
+ * always written: 0 where the call gives none.
+ *
+ * Slices pass as a pointer and then a length in bytes. What C cannot check, you guarantee:
+ *   - each pointer points to at least as many bytes as the length says (a length of 0 still wants a pointer that is not null);
+ *   - what a call may write (the memory, a buffer that is not const, a number's pointer) overlaps nothing else that is lent to that call;
+ *   - one thread at a time uses a memory.
+ * Everything else is checked: any bytes, any lengths, any numbers are answered with a code, and a refused call changes neither the memory
+ * nor any buffer.
+ *
+ *     static uint8_t box[TRAWL_MEMORY];
+ *     uint32_t channel, count;
+ *     uint8_t record[TRAWL_RECORD];
+ *     trawl_power_on(box, sizeof box);
+ *     if (trawl_connect(box, sizeof box, 0, CAN, 0, 500000, &channel) == STATUS_NOERROR)
+ *         while (trawl_read(box, sizeof box, channel, 1, record, sizeof record, &count) == STATUS_NOERROR)
+ *             use(record);
+ */
+#ifndef TRAWLPEPPER_H
+#define TRAWLPEPPER_H
+
+#include <stddef.h>
+#include <stdint.h>
+
+#ifdef __cplusplus
+extern "C" {
+#endif
+
+/* The size of the device memory, and of a message record. */
+#define TRAWL_MEMORY 9996u
+#define TRAWL_RECORD 36u
+
+/* Codes, by J2534-1's names. */
+#define STATUS_NOERROR 0x00u
+#define ERR_NOT_SUPPORTED 0x01u         /* unknown configuration parameter */
+#define ERR_INVALID_CHANNEL_ID 0x02u    /* channel number not 1 to 4, or not open */
+#define ERR_INVALID_PROTOCOL_ID 0x03u   /* connect: protocol is not 5 */
+#define ERR_NULL_PARAMETER 0x04u        /* lent buffer too short */
+#define ERR_INVALID_IOCTL_VALUE 0x05u   /* bad value for a known parameter */
+#define ERR_INVALID_FLAGS 0x06u         /* connect: a flag other than 0x100, 0x800 */
+#define ERR_FAILED 0x07u                /* sent with nothing in flight */
+#define ERR_TIMEOUT 0x09u               /* read: some records, fewer than asked (a result) */
+#define ERR_INVALID_MSG 0x0Au           /* bad message, frame or telegram */
+#define ERR_INVALID_TIME_INTERVAL 0x0Bu /* interval not 5 to 65,535 ms; advance over 1,000,000 us */
+#define ERR_EXCEEDED_LIMIT 0x0Cu        /* ten filters or ten periodics exist */
+#define ERR_INVALID_MSG_ID 0x0Du        /* no periodic of that number on this channel */
+#define ERR_INVALID_IOCTL_ID 0x0Fu      /* clear of an unknown kind */
+#define ERR_BUFFER_EMPTY 0x10u          /* read: no record; take: no frame */
+#define ERR_BUFFER_FULL 0x11u           /* write: no room */
+#define ERR_BUFFER_OVERFLOW 0x12u       /* records were lost since the last report (a result) */
+#define ERR_PIN_INVALID 0x13u           /* line over 3 */
+#define ERR_CHANNEL_IN_USE 0x14u        /* the line's channel is already open */
+#define ERR_MSG_PROTOCOL_ID 0x15u       /* protocol field of a message is not 5 */
+#define ERR_INVALID_FILTER_ID 0x16u     /* filter type not 1 or 2; no filter of that number on this channel */
+#define ERR_INVALID_BAUDRATE 0x19u      /* connect: rate not 125,000, 250,000 or 500,000 */
+#define ERR_INVALID_DEVICE_ID 0x1Au     /* device memory of the wrong size, or not valid */
+
+/* Protocol, connection flags, filter types, parameters; RxStatus and TxFlags bits of a record. */
+#define CAN 5u
+#define CAN_29BIT_ID 0x100u
+#define CAN_ID_BOTH 0x800u
+#define PASS_FILTER 1u
+#define BLOCK_FILTER 2u
+#define DATA_RATE 1u
+#define LOOPBACK 3u
+#define TX_MSG_TYPE 0x1u
+
+/* What a clear empties. */
+#define TRAWL_CLEAR_WRITTEN 1u
+#define TRAWL_CLEAR_RECEIVED 2u
+#define TRAWL_CLEAR_PERIODICS 3u
+#define TRAWL_CLEAR_FILTERS 4u
+
+/* ---- the box as a whole ---- */
+
+/* 1 where these bytes are a device memory, else 0. */
+uint32_t trawl_valid(const uint8_t *memory, size_t memory_length);
+
+/* Any bytes of the right size become the memory of a box just switched on: nothing open, clock 0. */
+uint32_t trawl_power_on(uint8_t *memory, size_t memory_length);
+
+/* Opens the raw CAN channel of a line (0 to 3) and gives its number, the line plus 1. */
+uint32_t trawl_connect(uint8_t *memory, size_t memory_length, uint32_t line, uint32_t protocol, uint32_t flags, uint32_t rate,
+                       uint32_t *channel);
+
+/* Disconnects every channel. The clock runs on. */
+uint32_t trawl_close(uint8_t *memory, size_t memory_length);
+
+/* Time goes on by 0 to 1,000,000 microseconds, for the clock and every periodic. */
+uint32_t trawl_advance(uint8_t *memory, size_t memory_length, uint32_t microseconds);
+
+/* A frame came in on a line: wide is 0 (11 bits) or 1 (29 bits), data has 0 to 8 bytes. */
+uint32_t trawl_frame(uint8_t *memory, size_t memory_length, uint32_t line, uint32_t wide, uint32_t identifier, const uint8_t *data,
+                     size_t data_length);
+
+/* ---- calls on a channel ---- */
+
+uint32_t trawl_disconnect(uint8_t *memory, size_t memory_length, uint32_t channel);
+
+/* mask and pattern are records of 36 bytes. Gives the filter's number, 1 to 10. */
+uint32_t trawl_start_filter(uint8_t *memory, size_t memory_length, uint32_t channel, uint32_t type, const uint8_t *mask,
+                            size_t mask_length, const uint8_t *pattern, size_t pattern_length, uint32_t *number);
+uint32_t trawl_stop_filter(uint8_t *memory, size_t memory_length, uint32_t channel, uint32_t number);
+
+/* message is a record, interval 5 to 65,535 milliseconds. Gives the periodic's number, 1 to 10. */
+uint32_t trawl_start_periodic(uint8_t *memory, size_t memory_length, uint32_t channel, const uint8_t *message, size_t message_length,
+                              uint32_t interval, uint32_t *number);
+uint32_t trawl_stop_periodic(uint8_t *memory, size_t memory_length, uint32_t channel, uint32_t number);
+
+/* Queues the first n records of a buffer of at least 36 * n bytes, in order, until one is refused. Gives how many were queued. */
+uint32_t trawl_write(uint8_t *memory, size_t memory_length, uint32_t channel, uint32_t n, const uint8_t *records, size_t records_length,
+                     uint32_t *count);
+
+/* Moves up to n of the oldest received records to the start of a buffer of at least 36 * n bytes. Gives how many. */
+uint32_t trawl_read(uint8_t *memory, size_t memory_length, uint32_t channel, uint32_t n, uint8_t *buffer, size_t buffer_length,
+                    uint32_t *count);
+
+/* The frame to send next, as a record, to the start of a buffer of at least 36 bytes. It stays in flight until it is sent. */
+uint32_t trawl_take(uint8_t *memory, size_t memory_length, uint32_t channel, uint8_t *buffer, size_t buffer_length);
+
+/* The frame in flight is on the line. */
+uint32_t trawl_sent(uint8_t *memory, size_t memory_length, uint32_t channel);
+
+uint32_t trawl_clear(uint8_t *memory, size_t memory_length, uint32_t channel, uint32_t kind);
+uint32_t trawl_get(uint8_t *memory, size_t memory_length, uint32_t channel, uint32_t parameter, uint32_t *value);
+uint32_t trawl_set(uint8_t *memory, size_t memory_length, uint32_t channel, uint32_t parameter, uint32_t value);
+
+#ifdef __cplusplus
+}
+#endif
+
+#endif
