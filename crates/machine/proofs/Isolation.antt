@@ -13,20 +13,11 @@ use lib.Seq.{ext-getD}
 use lib.Dec.{T, eqb→eq, lit<}
 use Rattle.codec.specs.Plain.{if_then_else_}
 use Rattle.machine.specs.Channel.{Chan, closed, Answer}
-use Rattle.machine.specs.Device.{Device, Event, connect, call, frame, advance, close, powerOn, chanAt, touches, speaker, chanStep, clockAfter, after, answer, step, run, answers}
+use Rattle.machine.specs.Device.{Device, Event, powerOn, chanAt, touches, speaker, chanStep, clockAfter, after, answer, step, run, answers}
 use Rattle.machine.specs.Demands.{FourChannels, concerns, strike, answersOf, Alike, Projected, Apart, Exchanged, SameToEach, Arranged, Ignored, Names, byCall, byConnect, byFrame}
-use Rattle.machine.proofs.Dispatch.{speaker-only, speaker-four, clock-stays, same-device, channels-kept, chan-after, chan-stays, none-move, answer-spoken, answer-own, run-channels-kept}
+use Rattle.machine.proofs.Dispatch.{touches-concerned, speaker-only, speaker-four, clock-stays, same-device, channels-kept, chan-after, chan-stays, none-move, answer-spoken, answer-own, run-channels-kept}
 
 -- ---- the dispatcher against demand 3's words
-
--- the machine lets an event touch a channel exactly where it concerns the channel
-pub touches-concerned : (i : ℕ) (e : Event) → touches e i ≡ concerns i e
-unfolding touches concerns
-touches-concerned i (connect l p f r) = refl
-touches-concerned i (call k x) = refl
-touches-concerned i (frame l w n b) = refl
-touches-concerned i (advance t) = refl
-touches-concerned i close = refl
 
 -- whoever answers an event that concerns channel i is channel i
 speaker-concerned : (i j : ℕ) (e : Event) → speaker e ≡ some j → concerns i e ≡ true → j ≡ i

@@ -3,7 +3,7 @@
 use Prim.Native.Nat.{ℕ, zero, suc, _+_, _-_, _*_, _<_}
 use mathlib.Core.Path.{_≡_, refl, sym, ap, ap₂, _∙_, subst, fun-ext}
 use mathlib.Core.Logic.{_⊎_, inl, inr, ⊎-elim}
-use mathlib.Core.Bool.{Bool, true, false, not, _||_}
+use mathlib.Core.Bool.{Bool, true, false, true≢false, not, _||_}
 use mathlib.Core.Option.{Option, none, some}
 use mathlib.Core.List.{List, [], _∷_, _++_, map, append-nil, append-assoc, map-id}
 use native.Mathlib.Omega.{arith}
@@ -25,6 +25,7 @@ use Rattle.machine.proofs.Dispatch.{connect-speaker, call-heard, same-d
 abbrev allListed : List (Bool × ℕ) → Bool
 allListed ts = all (λ t. member (t .1) table) ts
 
+-- then so is the code that they give
 codeOf-listed : (ts : List (Bool × ℕ)) → T (allListed ts) → T (member (codeOf ts) table)
 unfolding codeOf
 codeOf-listed [] h = unfold member table in tt
@@ -67,6 +68,7 @@ module _ {e : Event} {c : Chan} where
         leaves = λ t. absurd (T-not (member (o .1 .code) results || wroteSome e (o .1)) t (or-left (member (o .1 .code) results) (wroteSome e (o .1)) r));
       }
 
+  -- a call that is done
   done-fair : (c′ : Chan) (v : ℕ) → Fair e c (doneWith c′ v)
   unfolding doneWith says results table member
   done-fair c′ v = settled (doneWith c′ v) tt tt
@@ -86,6 +88,7 @@ module _ {e : Event} {c : Chan} where
 
 -- ---- a message's code, a read's code
 
+-- both are in the table
 messageCode-listed : (flags : ℕ) (m : List ℕ) → T (member (messageCode flags m) table)
 unfolding messageCode table member
 messageCode-listed flags m = codeOf-listed _ tt
@@ -124,6 +127,7 @@ pub record Written (b : List ℕ) (held : List Rec) (count : ℕ) (w : Wrote) : 
   pub counted : w .count ≡ count + more
   pub queued : w .held ≡ held ++ stored more b
 
+-- a write that stops here
 stops : (b : List ℕ) (held : List Rec) (count code : ℕ) → T (member code table) → Written b held count (record { held = held; count = count; code = code })
 unfolding stored
 stops b held count code l = record { listed = l; more = 0; counted = omega arith; queued = sym (append-nil held) }
@@ -151,6 +155,7 @@ none-queued {b} {held} q z =
     let zero-more : q .more ≡ 0 = omega arith in
     q .queued ∙ ap (λ (m : ℕ). held ++ stored m b) zero-more ∙ append-nil held
 
+-- a refused write counts none
 not-above : (a : Bool) (n : ℕ) → T (not (a || ltb 0 n)) → n ≡ 0
 not-above true n t = absurd t
 not-above false n t = omega (arith, nltb→le 0 n t)
@@ -158,6 +163,7 @@ not-above false n t = omega (arith, nltb→le 0 n t)
 -- ---- the calls on an open channel
 
 module _ (k : ℕ) (o : Open) where
+  -- a write: a refusal counts none, so it queued none
   write-fair : (n : ℕ) (b : List ℕ) → Fair (call k (write n b)) (opened o) (onWrite o n b)
   unfolding onWrite lentBy lent table member refusal wroteSome isWrite says withSending
   write-fair n b =
@@ -170,6 +176,7 @@ module _ (k : ℕ) (o : Open) where
         leaves = λ t. (ap (λ (l : List Rec). withSending o (s .periodics) l (s .flight)) (none-queued q (not-above (member (w .code) results) (w .count) t)), refl);
       })
 
+  -- a read: a refusal moved none
   reading-fair : (n : ℕ) (b : List ℕ) (m : ℕ) → Fair (call k (read n b)) (opened o) (reading o n b m)
   unfolding reading withReceiving says shownAll lentBy lent refusal
   reading-fair n b m =
@@ -185,14 +192,15 @@ module _ (k : ℕ) (o : Open) where
 
   read-fair : (n : ℕ) (b : List ℕ) → Fair (call k (read n b)) (opened o) (onRead o n b)
   unfolding onRead lentBy lent table member
-  read-fair n b = refused-or _ _ (codeOf-listed _ tt) (one-or (eqb n 0) _ _ (kept 0x00 0 tt) (reading-fair n b _))
+  read-fair n b = refused-or _ _ (codeOf-listed _ tt) (one-or (eqb n 0) _ _ (kept _ _ tt) (reading-fair n b _))
 
+  -- a take and a sent: refused where there is no frame
   take-fair : (b : List ℕ) → Fair (call k (takeNext b)) (opened o) (onTake o b)
   unfolding onTake lentBy lent table member results taking chosen giving says
   take-fair b = refused-or _ _ (codeOf-listed _ tt) (from (o .sending .flight))
     where
       next-fair : (x : Option Next) → Fair (call k (takeNext b)) (opened o) (chosen o x b)
-      next-fair none = kept 0x10 0 tt
+      next-fair none = kept _ _ tt
       next-fair (some x) = settled _ tt tt
 
       from : (f : Option Rec) → Fair (call k (takeNext b)) (opened o) (taking o f b)
@@ -204,9 +212,10 @@ module _ (k : ℕ) (o : Open) where
   sent-fair now = from (o .sending .flight)
     where
       from : (f : Option Rec) → Fair (call k sent) (opened o) (sending now o f)
-      from none = kept 0x07 0 tt
+      from none = kept _ _ tt
       from (some r) = done-fair _ _
 
+  -- every call
   open-fair : (rates : List ℕ) (now : ℕ) (x : Call) → Fair (call k x) (opened o) (onOpen rates now o x)
   unfolding onOpen onStartFilter onStopFilter onStartPeriodic onStopPeriodic onClear onGet onSet filterCode periodicCode lentBy lent table member
   open-fair rates now disconnect = done-fair _ _
@@ -223,25 +232,31 @@ module _ (k : ℕ) (o : Open) where
       one-or (eqb kind 1) _ _ (done-fair _ _)
       (one-or (eqb kind 2) _ _ (done-fair _ _)
       (one-or (eqb kind 3) _ _ (done-fair _ _)
-      (one-or (eqb kind 4) _ _ (done-fair _ _) (kept 0x0F 0 tt))))
-  open-fair rates now (getParameter p) = one-or (eqb p 1) _ _ (done-fair _ _) (one-or (eqb p 3) _ _ (done-fair _ _) (kept 0x01 0 tt))
+      (one-or (eqb kind 4) _ _ (done-fair _ _) (kept _ _ tt))))
+  open-fair rates now (getParameter p) = one-or (eqb p 1) _ _ (done-fair _ _) (one-or (eqb p 3) _ _ (done-fair _ _) (kept _ _ tt))
   open-fair rates now (setParameter p v) =
       one-or (eqb p 1) _ _ (refused-or _ _ (codeOf-listed _ tt) (done-fair _ _))
-      (one-or (eqb p 3) _ _ (refused-or _ _ (codeOf-listed _ tt) (done-fair _ _)) (kept 0x01 0 tt))
+      (one-or (eqb p 3) _ _ (refused-or _ _ (codeOf-listed _ tt) (done-fair _ _)) (kept _ _ tt))
 
 -- ---- every event
+
+-- a choice whose test fails
+if-out : {A : Type 0} (g : Bool) (x y : A) → g ≡ false → (if g then x else y) ≡ y
+if-out true x y h = absurd (true≢false h)
+if-out false x y h = refl
 
 module _ (rates : List ℕ) where
   -- what an event does to a channel that it touches
   chanStep-fair : (now : ℕ) (c : Chan) (e : Event) → Fair e c (chanStep rates now c e)
   unfolding chanStep onConnect connectCode onCall lentBy table member results says
   chanStep-fair now c (connect l p f r) = refused-or _ _ (codeOf-listed _ tt) (done-fair _ _)
-  chanStep-fair now closed (call k x) = kept 0x02 0 tt
+  chanStep-fair now closed (call k x) = kept _ _ tt
   chanStep-fair now (opened o) (call k x) = open-fair k o rates now x
   chanStep-fair now c (frame l w n b) = settled _ tt tt
   chanStep-fair now c (advance t) = settled _ tt tt
   chanStep-fair now c close = settled _ tt tt
 
+  -- an answer that is no channel's
   ownAnswer-listed : (e : Event) → T (member (ownAnswer rates e .code) table)
   unfolding ownAnswer says connectCode frameCode table member
   ownAnswer-listed (connect l p f r) = codeOf-listed _ tt
@@ -268,8 +283,7 @@ module _ (rates : List ℕ) where
   spoken-left d e i h =
       let fair = chanStep-fair (d .clock) (chanAt i d) e in
       subst (Left d e) (sym (step-spoken rates d e i h))
-      (λ t.
-      (ap (λ (c : Chan). withChan i c d) (fair .leaves t .0) ∙ withChan-same i d, fair .leaves t .1))
+      (λ t. (ap (λ (c : Chan). withChan i c d) (fair .leaves t .0) ∙ withChan-same i d, fair .leaves t .1))
 
   -- a bad frame leaves its channel
   frame-left : (l w n : ℕ) (b : List ℕ) (now : ℕ) (c : Chan) → ltb 3 l ≡ false → T (refusal (frame l w n b) (ownAnswer rates (frame l w n b)))
@@ -282,7 +296,7 @@ module _ (rates : List ℕ) where
       by true q = absurd (not-refused (frame l w n b) (ownAnswer rates (frame l w n b)) (rw h (eqb-true (frameCode w n b) 0 q)) t)
       by false q = refl
 
-  -- a refused advance is over the limit, and leaves every channel
+  -- a refused advance is over the limit
   advance-over : (t : ℕ) → T (refusal (advance t) (ownAnswer rates (advance t))) → leb t 1000000 ≡ false
   unfolding ownAnswer says codeOf
   advance-over t r = by (ltb 1000000 t) refl
@@ -291,13 +305,19 @@ module _ (rates : List ℕ) where
       by true q = lt-leb t 1000000 (ltb-true 1000000 t q)
       by false q = absurd (not-refused (advance t) (ownAnswer rates (advance t)) (rw q) r)
 
+  -- it leaves every channel, and the clock
   advance-left : (t : ℕ) → leb t 1000000 ≡ false → (c : Chan) → onAdvance t c ≡ c
   unfolding onAdvance
   advance-left t h closed = refl
-  advance-left t h (opened o) = rw h
+  advance-left t h (opened o) = if-out (leb t 1000000) _ _ h
 
+  clock-left : (t now : ℕ) → leb t 1000000 ≡ false → clockAfter now (advance t) ≡ now
+  unfolding clockAfter
+  clock-left t now h = if-out (leb t 1000000) _ _ h
+
+  -- every event
   refused-left : (d : Device) (e : Event) → FourChannels d → Left d e (step rates d e)
-  unfolding ownAnswer says lentBy clockAfter
+  unfolding ownAnswer says lentBy
   refused-left d (connect l p f r) four = by (ltb l 4) refl
     where
       by : (b : Bool) → ltb l 4 ≡ b → Left d (connect l p f r) (step rates d (connect l p f r))
@@ -317,7 +337,7 @@ module _ (rates : List ℕ) where
       subst (Left d (advance t)) (sym (step-advance rates d t))
       (λ r.
       let over = advance-over t r in
-      (same-device (rw over) (ap (λ (f : Chan → Chan). map f (d .chans)) (fun-ext (advance-left t over)) ∙ map-id (d .chans)), refl))
+      (same-device (clock-left t (d .clock) over) (ap (λ (f : Chan → Chan). map f (d .chans)) (fun-ext (advance-left t over)) ∙ map-id (d .chans)), refl))
   refused-left d close four = subst (Left d close) (sym (step-close rates d)) (λ t. absurd (not-refused close (says 0x00 0 []) refl t))
 
   -- DEMAND 1. Every refusal leaves the device and the lent buffer as they were
