@@ -232,6 +232,11 @@ named i (byCall {k = k}) t = eqb→eq k (i + 1) t
 named i (byConnect {l = l}) t = ap (λ (n : ℕ). n + 1) (eqb→eq l i t)
 named i (byFrame {l = l}) t = ap (λ (n : ℕ). n + 1) (eqb→eq l i t)
 
--- DEMAND 3: two events that name different channels are apart, so they change places
+-- DEMAND 3. Two events that name different channels are apart
 pub different-apart : {e e′ : Event} {k k′ : ℕ} → Names e k → Names e′ k′ → k ≢ k′ → Apart e e′
 different-apart n n′ h i k t t′ = h (named i n t ∙ sym (named i n′ t′))
+
+-- DEMAND 3, exchange, for neighbours that name different channels
+pub different-exchange : (rates : List ℕ) (d : Device) (xs : List Event) (ys : List Event) {e e′ : Event} {k k′ : ℕ} → FourChannels d
+    → Names e k → Names e′ k′ → k ≢ k′ → Exchanged rates d xs e e′ ys
+different-exchange rates d xs ys {e} {e′} four n n′ h = exchange rates d xs e e′ ys four (different-apart n n′ h)
