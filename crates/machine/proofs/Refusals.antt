@@ -138,7 +138,8 @@ writing-stored flags zero b held count = stops b held count 0x00 tt
 writing-stored flags (suc n) b held count =
     by (writeCode flags held b) (writeCode-listed flags held b) (writing-stored flags n (drop 36 b) (held ++ clean b ∷ []) (count + 1))
   where
-    by : (k : ℕ) → T (member k table) → {w : Wrote} → Written (drop 36 b) (held ++ clean b ∷ []) (count + 1) w → Written b held count (unlessStopped k held count w)
+    by : (k : ℕ) → T (member k table) → {w : Wrote} → Written (drop 36 b) (held ++ clean b ∷ []) (count + 1) w
+        → Written b held count (unlessStopped k held count w)
     by zero l q =
         record {
           listed = q .listed;
@@ -186,7 +187,10 @@ module _ (k : ℕ) (o : Open) where
         leaves =
             λ t.
             ⊎-elim (λ s. settled {e = call k (read n b)} {c = opened o} (reading o n b m) (readCode-listed (r .lost) n m) s .leaves t)
-            (λ q. (ap₂ (λ (j : ℕ) (l : Bool). withReceiving o (drop j (r .queue)) l) (q .1) (sym (q .0)), ap (λ (j : ℕ). shownAll (take j (r .queue)) ++ drop (36 * j) b) (q .1)))
+            (λ q. (
+              ap₂ (λ (j : ℕ) (l : Bool). withReceiving o (drop j (r .queue)) l) (q .1) (sym (q .0)),
+              ap (λ (j : ℕ). shownAll (take j (r .queue)) ++ drop (36 * j) b) (q .1),
+            ))
             (read-nothing (r .lost) n m);
       }
 
