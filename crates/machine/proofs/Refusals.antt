@@ -10,8 +10,8 @@ use native.Mathlib.Omega.{arith}
 use borrow.Author.Tests.{eqb-true, ltb-true, ltb-false, lt-leb}
 use lib.ListN.{take, drop}
 use lib.Dec.{eqb, leb, ltb, T, T-not, nltb→le}
-use Rattle.codec.proofs.Tests.{left, right, join, true-T, or-left}
-use Rattle.codec.specs.Plain.{if_then_else_, within, member, all}
+use Rattle.codec.proofs.Tests.{true-T, or-left}
+use Rattle.codec.specs.Plain.{if_then_else_, within, member}
 use Rattle.machine.specs.Codes.{table, codeOf}
 use Rattle.machine.specs.Message.{idBytes, Rec, messageCode, shownAll, clean}
 use Rattle.machine.specs.Channel.{Chan, closed, opened, Open, Call, disconnect, startFilter, stopFilter, startPeriodic, stopPeriodic, write, read, takeNext, sent, clear, getParameter, setParameter, lent, Answer, says, Outcome, Sending, withSending, Receiving, withReceiving, unless, doneWith, filterCode, onStartFilter, onStopFilter, frameCode, offered, onFrame, readCode, reading, onRead, Wrote, writeCode, unlessStopped, writing, onWrite, periodicCode, onStartPeriodic, onStopPeriodic, onAdvance, Next, next, giving, chosen, taking, onTake, sending, onSent, onClear, onGet, onSet, connectCode, onConnect, onOpen, onCall}
@@ -21,20 +21,21 @@ use Rattle.machine.proofs.Dispatch.{connect-speaker, call-heard, same-d
 
 -- ---- tables of tests and codes
 
+-- a code that is one of two is in the table where both are
+either-listed : (g : Bool) (x y : ℕ) → T (member x table) → T (member y table) → T (member (if g then x else y) table)
+either-listed true x y p q = p
+either-listed false x y p q = q
+
 -- every code that the tests can give is in the table
-abbrev allListed : List (Bool × ℕ) → Bool
-allListed ts = all (λ t. member (t .1) table) ts
+abbrev Listed : List (Bool × ℕ) → Type 0
+Listed [] = Unit {0}
+Listed (t ∷ ts) = T (member (t .1) table) × Listed ts
 
 -- then so is the code that they give
-codeOf-listed : (ts : List (Bool × ℕ)) → T (allListed ts) → T (member (codeOf ts) table)
+codeOf-listed : (ts : List (Bool × ℕ)) → Listed ts → T (member (codeOf ts) table)
 unfolding codeOf
 codeOf-listed [] h = unfold member table in tt
-codeOf-listed (t ∷ ts) h =
-    by (t .0) (left (member (t .1) table) (allListed ts) h) (codeOf-listed ts (right (member (t .1) table) (allListed ts) h))
-  where
-    by : (b : Bool) → T (member (t .1) table) → T (member (codeOf ts) table) → T (member (if b then t .1 else codeOf ts) table)
-    by true own more = own
-    by false own more = more
+codeOf-listed (t ∷ ts) h = either-listed (t .0) (t .1) (codeOf ts) (h .0) (codeOf-listed ts (h .1))
 
 -- ---- outcomes
 
@@ -68,19 +69,14 @@ module _ {e : Event} {c : Chan} where
         leaves = λ t. absurd (T-not (member (o .1 .code) results || wroteSome e (o .1)) t (or-left (member (o .1 .code) results) (wroteSome e (o .1)) r));
       }
 
-  -- a call that is done
-  done-fair : (c′ : Chan) (v : ℕ) → Fair e c (doneWith c′ v)
-  unfolding doneWith says results table member
-  done-fair c′ v = settled (doneWith c′ v) tt tt
-
   -- an outcome that leaves everything, with any code of the table
-  kept : (k v : ℕ) → T (member k table) → Fair e c (c, says k v (lentBy e))
+  kept : (k v : ℕ) (b : List ℕ) → b ≡ lentBy e → T (member k table) → Fair e c (c, says k v b)
   unfolding says
-  kept k v l = record { listed = l; leaves = λ t. (refl, refl) }
+  kept k v b z l = record { listed = l; leaves = λ t. (refl, z) }
 
   -- refused by a table of tests, else what the call does
-  refused-or : (k : ℕ) (o : Outcome) → T (member k table) → Fair e c o → Fair e c (unless k c (lentBy e) o)
-  refused-or k o l f = unless-case (Fair e c) k c (lentBy e) o f (kept k 0 l)
+  refused-or : (k : ℕ) (b : List ℕ) (o : Outcome) → b ≡ lentBy e → T (member k table) → Fair e c o → Fair e c (unless k c b o)
+  refused-or k b o z l f = unless-case (Fair e c) k c b o f (kept k 0 b z l)
 
   -- one of two outcomes
   one-or : (b : Bool) (x y : Outcome) → Fair e c x → Fair e c y → Fair e c (if b then x else y)
@@ -91,17 +87,11 @@ module _ {e : Event} {c : Chan} where
 -- both are in the table
 messageCode-listed : (flags : ℕ) (m : List ℕ) → T (member (messageCode flags m) table)
 unfolding messageCode table member
-messageCode-listed flags m = codeOf-listed _ tt
+messageCode-listed flags m = search (codeOf-listed, tt) depth 16
 
 readCode-listed : (lost : Bool) (n m : ℕ) → T (member (readCode lost n m) table)
 unfolding readCode table member
-readCode-listed true n m = tt
-readCode-listed false n m = by (eqb m n) (eqb m 0)
-  where
-    by : (a z : Bool) → T (member (if a then 0x00 else if z then 0x10 else 0x09) table)
-    by true z = tt
-    by false true = tt
-    by false false = tt
+readCode-listed lost n m = search (either-listed, tt)
 
 -- a read's code is a result, or the lost mark is not set and nothing is moved
 read-nothing : (lost : Bool) (n m : ℕ) → T (member (readCode lost n m) results) ⊎ ((lost ≡ false) × (m ≡ 0))
@@ -118,7 +108,7 @@ read-nothing false n m = by (eqb m n) (eqb m 0) refl
 
 writeCode-listed : (flags : ℕ) (held : List Rec) (m : List ℕ) → T (member (writeCode flags held m) table)
 unfolding writeCode table member
-writeCode-listed flags held m = codeOf-listed _ (join (member (messageCode flags m) table) true (messageCode-listed flags m) tt)
+writeCode-listed flags held m = search (codeOf-listed, messageCode-listed, tt) depth 16
 
 -- a write of b's records, with these held and counted so far: its code is in the table, and it ends with as many more records of b as it counts
 pub record Written (b : List ℕ) (held : List Rec) (count : ℕ) (w : Wrote) : Type 0 where
@@ -163,6 +153,9 @@ not-above false n t = omega (arith, nltb→le 0 n t)
 
 -- ---- the calls on an open channel
 
+-- what makes an outcome fair
+ruleset fair = (kept, settled, refused-or, one-or, codeOf-listed, either-listed, messageCode-listed, refl, tt)
+
 module _ (k : ℕ) (o : Open) where
   -- a write: a refusal counts none, so it queued none
   write-fair : (n : ℕ) (b : List ℕ) → Fair (call k (write n b)) (opened o) (onWrite o n b)
@@ -171,7 +164,7 @@ module _ (k : ℕ) (o : Open) where
       let s : Sending = o .sending in
       let w : Wrote = writing (o .config .flags) n b (s .written) 0 in
       let q : Written b (s .written) 0 w = writing-stored (o .config .flags) n b (s .written) 0 in
-      refused-or _ _ (codeOf-listed _ tt)
+      refused-or _ _ _ refl (codeOf-listed _ (tt, tt))
       (record {
         listed = q .listed;
         leaves = λ t. (ap (λ (l : List Rec). withSending o (s .periodics) l (s .flight)) (none-queued q (not-above (member (w .code) results) (w .count) t)), refl);
@@ -196,51 +189,44 @@ module _ (k : ℕ) (o : Open) where
 
   read-fair : (n : ℕ) (b : List ℕ) → Fair (call k (read n b)) (opened o) (onRead o n b)
   unfolding onRead lentBy lent table member
-  read-fair n b = refused-or _ _ (codeOf-listed _ tt) (one-or (eqb n 0) _ _ (kept _ _ tt) (reading-fair n b _))
+  read-fair n b = search (fair, reading-fair)
 
   -- a take and a sent: refused where there is no frame
   take-fair : (b : List ℕ) → Fair (call k (takeNext b)) (opened o) (onTake o b)
   unfolding onTake lentBy lent table member results taking chosen giving says
-  take-fair b = refused-or _ _ (codeOf-listed _ tt) (from (o .sending .flight))
+  take-fair b = refused-or _ _ _ refl (codeOf-listed _ (tt, tt)) (from (o .sending .flight))
     where
       next-fair : (x : Option Next) → Fair (call k (takeNext b)) (opened o) (chosen o x b)
-      next-fair none = kept _ _ tt
-      next-fair (some x) = settled _ tt tt
+      next-fair none = search fair
+      next-fair (some x) = search fair
 
       from : (f : Option Rec) → Fair (call k (takeNext b)) (opened o) (taking o f b)
-      from (some r) = settled _ tt tt
+      from (some r) = search fair
       from none = next-fair (next (o .sending .periodics) (o .sending .written))
 
   sent-fair : (now : ℕ) → Fair (call k sent) (opened o) (onSent now o)
-  unfolding onSent sending lentBy lent table member
+  unfolding onSent sending lentBy lent table member results doneWith says
   sent-fair now = from (o .sending .flight)
     where
       from : (f : Option Rec) → Fair (call k sent) (opened o) (sending now o f)
-      from none = kept _ _ tt
-      from (some r) = done-fair _ _
+      from none = search fair
+      from (some r) = search fair
 
   -- every call
   open-fair : (rates : List ℕ) (now : ℕ) (x : Call) → Fair (call k x) (opened o) (onOpen rates now o x)
-  unfolding onOpen onStartFilter onStopFilter onStartPeriodic onStopPeriodic onClear onGet onSet filterCode periodicCode lentBy lent table member
-  open-fair rates now disconnect = done-fair _ _
-  open-fair rates now (startFilter t m p) = refused-or _ _ (codeOf-listed _ tt) (done-fair _ _)
-  open-fair rates now (stopFilter n) = refused-or _ _ (codeOf-listed _ tt) (done-fair _ _)
-  open-fair rates now (startPeriodic m i) =
-      refused-or _ _ (codeOf-listed _ (join (member (messageCode (o .config .flags) m) table) true (messageCode-listed (o .config .flags) m) tt)) (done-fair _ _)
-  open-fair rates now (stopPeriodic n) = refused-or _ _ (codeOf-listed _ tt) (done-fair _ _)
+  unfolding onOpen onStartFilter onStopFilter onStartPeriodic onStopPeriodic onClear onGet onSet filterCode periodicCode lentBy lent table member results doneWith says
+  open-fair rates now disconnect = search fair
+  open-fair rates now (startFilter t m p) = search fair depth 16
+  open-fair rates now (stopFilter n) = search fair
+  open-fair rates now (startPeriodic m i) = search fair depth 16
+  open-fair rates now (stopPeriodic n) = search fair
   open-fair rates now (write n b) = write-fair n b
   open-fair rates now (read n b) = read-fair n b
   open-fair rates now (takeNext b) = take-fair b
   open-fair rates now sent = sent-fair now
-  open-fair rates now (clear kind) =
-      one-or (eqb kind 1) _ _ (done-fair _ _)
-      (one-or (eqb kind 2) _ _ (done-fair _ _)
-      (one-or (eqb kind 3) _ _ (done-fair _ _)
-      (one-or (eqb kind 4) _ _ (done-fair _ _) (kept _ _ tt))))
-  open-fair rates now (getParameter p) = one-or (eqb p 1) _ _ (done-fair _ _) (one-or (eqb p 3) _ _ (done-fair _ _) (kept _ _ tt))
-  open-fair rates now (setParameter p v) =
-      one-or (eqb p 1) _ _ (refused-or _ _ (codeOf-listed _ tt) (done-fair _ _))
-      (one-or (eqb p 3) _ _ (refused-or _ _ (codeOf-listed _ tt) (done-fair _ _)) (kept _ _ tt))
+  open-fair rates now (clear kind) = search fair depth 16
+  open-fair rates now (getParameter p) = search fair
+  open-fair rates now (setParameter p v) = search fair depth 16
 
 -- ---- every event
 
@@ -252,21 +238,21 @@ if-out false x y h = refl
 module _ (rates : List ℕ) where
   -- what an event does to a channel that it touches
   chanStep-fair : (now : ℕ) (c : Chan) (e : Event) → Fair e c (chanStep rates now c e)
-  unfolding chanStep onConnect connectCode onCall lentBy table member results says
-  chanStep-fair now c (connect l p f r) = refused-or _ _ (codeOf-listed _ tt) (done-fair _ _)
-  chanStep-fair now closed (call k x) = kept _ _ tt
+  unfolding chanStep onConnect connectCode onCall lentBy table member results doneWith says
+  chanStep-fair now c (connect l p f r) = search fair depth 16
+  chanStep-fair now closed (call k x) = search fair
   chanStep-fair now (opened o) (call k x) = open-fair k o rates now x
-  chanStep-fair now c (frame l w n b) = settled _ tt tt
-  chanStep-fair now c (advance t) = settled _ tt tt
-  chanStep-fair now c close = settled _ tt tt
+  chanStep-fair now c (frame l w n b) = search fair
+  chanStep-fair now c (advance t) = search fair
+  chanStep-fair now c close = search fair
 
   -- an answer that is no channel's
   ownAnswer-listed : (e : Event) → T (member (ownAnswer rates e .code) table)
   unfolding ownAnswer says connectCode frameCode table member
-  ownAnswer-listed (connect l p f r) = codeOf-listed _ tt
+  ownAnswer-listed (connect l p f r) = search (codeOf-listed, tt) depth 16
   ownAnswer-listed (call k x) = tt
-  ownAnswer-listed (frame l w n b) = codeOf-listed _ (join (member (frameCode w n b) table) true (codeOf-listed _ tt) tt)
-  ownAnswer-listed (advance t) = codeOf-listed _ tt
+  ownAnswer-listed (frame l w n b) = search (codeOf-listed, tt) depth 16
+  ownAnswer-listed (advance t) = search (codeOf-listed, tt) depth 16
   ownAnswer-listed close = tt
 
   -- DEMAND 1. Every answer's code is in the scope's table
