@@ -15,8 +15,11 @@ pub filterOrder : Happens
     ∷ call 1 (startFilter 0 (raw 6 0 0x100 0 2 0 []) (raw 6 0 0 0 1 0 [])) ⇒ code 0x16
     ∷ call 1 (startFilter 257 (raw 5 0 0 0 1 0 []) (raw 5 0 0 0 1 0 [])) ⇒ code 0x16
     ∷ call 1 (startFilter 1 (raw 6 0 0x100 0 2 0 []) (raw 5 0 0 0 1 0 [])) ⇒ code 0x15
+    ∷ call 1 (startFilter 1 (raw 4 0 0 0 1 0 []) (raw 5 0 0 0 1 0 [])) ⇒ code 0x15
     ∷ call 1 (startFilter 1 (raw 5 0 0x100 0 2 0 []) (raw 6 0 0 0 1 0 [])) ⇒ code 0x15
+    ∷ call 1 (startFilter 1 (raw 5 0 0 0 1 0 []) (raw 4 0 0 0 1 0 [])) ⇒ code 0x15
     ∷ call 1 (startFilter 1 (raw 5 0 0 0 2 0 []) (raw 5 0 0 0 1 0 [])) ⇒ code 0x0A
+    ∷ call 1 (startFilter 1 (raw 5 0 0 0 1 0 []) (raw 5 0 0 0 2 0 [])) ⇒ code 0x0A
     ∷ call 1 (startFilter 1 (raw 5 0 0 0 0 0 []) (raw 5 0 0 0 0 0 [])) ⇒ code 0x0A
     ∷ call 1 (startFilter 1 (raw 5 0 0 0 13 0 []) (raw 5 0 0 0 13 0 [])) ⇒ code 0x0A
     ∷ call 1 (startFilter 1 (raw 5 0 0 0 1 0 []) (raw 5 0 1 0 1 0 [])) ⇒ code 0x0A
