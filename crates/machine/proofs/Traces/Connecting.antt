@@ -1,11 +1,12 @@
 -- Worked traces of the scope's sections "The box" and "Codes": connect, disconnect, close, advance, and the order 0x02, 0x04, then each part's
 -- own list. Assumes nothing.
 use mathlib.Core.Path.{refl}
+use Prim.Native.Nat.{_+_, _-_}
 use mathlib.Core.List.{List, [], _∷_, _++_}
 use lib.ListN.{replicate}
 use Rattle.machine.specs.Channel.{says, disconnect, startFilter, stopFilter, startPeriodic, stopPeriodic, write, read, takeNext, sent, clear, getParameter, setParameter}
 use Rattle.machine.specs.Device.{connect, call, frame, advance, close}
-use Rattle.machine.proofs.Traces.Words.{_⇒_, answered, Happens, asTold, done, gives, code, room, message, got, everything}
+use Rattle.machine.proofs.Traces.Words.{_⇒_, answered, Happens, asTold, done, gives, code, room, message, got, everything, each}
 
 -- "Whole: 01 00 05 00 A0 C2 1E 0B 01 01 gives 00 01 10 00": a connect, and a read with nothing held
 pub whole : Happens (connect 0 5 0 500000 ⇒ gives 1 ∷ call 1 (read 1 (room 36)) ⇒ says 0x10 0 (room 36) ∷ [])
@@ -26,6 +27,7 @@ pub connectOrder : Happens
     ∷ connect 4 5 0 500000 ⇒ code 0x13
     ∷ connect 256 5 0 500000 ⇒ code 0x13
     ∷ connect 4294967296 5 0 500000 ⇒ code 0x13
+    ∷ connect 1 4 0 500000 ⇒ code 0x03
     ∷ connect 1 261 0 500000 ⇒ code 0x03
     ∷ connect 1 5 0x80000100 500000 ⇒ code 0x06
     ∷ connect 1 5 0 500001 ⇒ code 0x19
@@ -64,6 +66,48 @@ pub widths : Happens
     ∷ [])
 unfolding answered
 widths = asTold refl
+
+-- four channels side by side: each has its own filters, queue, records, periodics, flight and configuration, and an advance reaches them all
+pub sideBySide : Happens
+    (connect 0 5 0 125000 ⇒ gives 1
+    ∷ connect 1 5 0 250000 ⇒ gives 2
+    ∷ connect 2 5 0 500000 ⇒ gives 3
+    ∷ connect 3 5 0 125000 ⇒ gives 4
+    ∷ call 2 (everything 1 0) ⇒ gives 1
+    ∷ call 4 (everything 1 0) ⇒ gives 1
+    ∷ each 4 (λ k. frame (k - 1) 0 (0x10 + k) [] ⇒ done ∷ call k (write 1 (message 0 k [])) ⇒ gives 1 ∷ [])
+    ++ call 3 (startPeriodic (message 0 0x33 []) 5) ⇒ gives 1
+    ∷ call 4 (startPeriodic (message 0 0x44 []) 10) ⇒ gives 1
+    ∷ call 2 (setParameter 3 1) ⇒ done
+    ∷ call 1 (takeNext (room 36)) ⇒ says 0x00 0 (message 0 1 [])
+    ∷ call 2 (takeNext (room 36)) ⇒ says 0x00 0 (message 0 2 [])
+    ∷ call 3 (takeNext (room 36)) ⇒ says 0x00 0 (message 0 0x33 [])
+    ∷ call 4 sent ⇒ code 0x07
+    ∷ call 4 (takeNext (room 36)) ⇒ says 0x00 0 (message 0 0x44 [])
+    ∷ call 2 sent ⇒ done
+    ∷ call 3 sent ⇒ done
+    ∷ call 4 sent ⇒ done
+    ∷ call 1 (read 2 (room 72)) ⇒ says 0x10 0 (room 72)
+    ∷ call 2 (read 2 (room 72)) ⇒ says 0x00 2 (got 0 0 0x12 [] ++ got 1 0 2 [])
+    ∷ call 3 (read 2 (room 72)) ⇒ says 0x10 0 (room 72)
+    ∷ call 4 (read 2 (room 72)) ⇒ says 0x09 1 (got 0 0 0x14 [] ++ room 36)
+    ∷ call 3 (clear 1) ⇒ done
+    ∷ call 3 (takeNext (room 36)) ⇒ says 0x10 0 (room 36)
+    ∷ advance 5000 ⇒ done
+    ∷ call 3 (takeNext (room 36)) ⇒ says 0x00 0 (message 0 0x33 [])
+    ∷ call 4 (takeNext (room 36)) ⇒ says 0x00 0 (message 0 4 [])
+    ∷ call 4 sent ⇒ done
+    ∷ call 4 (takeNext (room 36)) ⇒ says 0x10 0 (room 36)
+    ∷ advance 5000 ⇒ done
+    ∷ call 4 (takeNext (room 36)) ⇒ says 0x00 0 (message 0 0x44 [])
+    ∷ call 4 disconnect ⇒ done
+    ∷ call 3 (takeNext (room 36)) ⇒ says 0x00 0 (message 0 0x33 [])
+    ∷ call 2 (getParameter 3) ⇒ gives 1
+    ∷ call 3 (getParameter 3) ⇒ gives 0
+    ∷ call 1 (takeNext (room 36)) ⇒ says 0x00 0 (message 0 1 [])
+    ∷ [])
+unfolding answered
+sideBySide = asTold refl
 
 -- "channel number not 1 to 4, or not open" comes before every other code, and leaves the lent buffer; 258 is not 2, nor is 2 ^ 32 + 2
 pub notOpen : Happens
@@ -164,10 +208,12 @@ pub clock : Happens
     ∷ frame 0 0 1 [] ⇒ done
     ∷ advance 1 ⇒ done
     ∷ frame 0 0 2 [] ⇒ done
-    ∷ call 1 (read 2 (room 72)) ⇒ says 0x00 2 (got 0 4294967295 1 [] ++ got 0 0 2 [])
+    ∷ advance 1 ⇒ done
+    ∷ frame 0 0 3 [] ⇒ done
+    ∷ call 1 (read 3 (room 108)) ⇒ says 0x00 3 (got 0 4294967295 1 [] ++ got 0 0 2 [] ++ got 0 1 3 [])
     ∷ call 1 (takeNext (room 36)) ⇒ says 0x00 0 (message 0 0x7E8 [])
     ∷ call 1 sent ⇒ done
-    ∷ advance 2703 ⇒ done
+    ∷ advance 2702 ⇒ done
     ∷ call 1 (takeNext (room 36)) ⇒ says 0x10 0 (room 36)
     ∷ advance 1 ⇒ done
     ∷ call 1 (takeNext (room 36)) ⇒ says 0x00 0 (message 0 0x7E8 [])
@@ -175,27 +221,33 @@ pub clock : Happens
 unfolding answered
 clock = asTold refl
 
--- "Configuration: 1 is the rate (the same three), 3 is loopback (0 or 1; 0 at connect)"; "Set: 0x01, 0x05"; 257 is not 1
+-- "Configuration: 1 is the rate (the same three), 3 is loopback (0 or 1; 0 at connect)"; "Set: 0x01, 0x05"; 257 is not 1; a set changes nothing
+-- else: the other parameter stays, and so do the connection's flags
 pub configuration : Happens
-    (connect 0 5 0 500000 ⇒ gives 1
+    (connect 0 5 0x100 500000 ⇒ gives 1
     ∷ call 1 (getParameter 1) ⇒ gives 500000
     ∷ call 1 (getParameter 3) ⇒ gives 0
     ∷ call 1 (setParameter 1 125000) ⇒ done
     ∷ call 1 (setParameter 1 125001) ⇒ code 0x05
     ∷ call 1 (setParameter 1 1) ⇒ code 0x05
     ∷ call 1 (getParameter 1) ⇒ gives 125000
-    ∷ call 1 (setParameter 1 250000) ⇒ done
-    ∷ call 1 (getParameter 1) ⇒ gives 250000
     ∷ call 1 (setParameter 3 1) ⇒ done
     ∷ call 1 (setParameter 3 2) ⇒ code 0x05
     ∷ call 1 (setParameter 3 256) ⇒ code 0x05
     ∷ call 1 (getParameter 3) ⇒ gives 1
+    ∷ call 1 (getParameter 1) ⇒ gives 125000
+    ∷ call 1 (setParameter 1 250000) ⇒ done
+    ∷ call 1 (getParameter 1) ⇒ gives 250000
+    ∷ call 1 (getParameter 3) ⇒ gives 1
+    ∷ call 1 (setParameter 0 125000) ⇒ code 0x01
     ∷ call 1 (setParameter 2 7) ⇒ code 0x01
     ∷ call 1 (setParameter 259 2) ⇒ code 0x01
     ∷ call 1 (getParameter 0) ⇒ code 0x01
     ∷ call 1 (getParameter 257) ⇒ code 0x01
     ∷ call 1 (setParameter 3 0) ⇒ done
     ∷ call 1 (getParameter 3) ⇒ gives 0
+    ∷ call 1 (everything 1 0) ⇒ code 0x0A
+    ∷ call 1 (everything 1 0x100) ⇒ gives 1
     ∷ [])
 unfolding answered
 configuration = asTold refl

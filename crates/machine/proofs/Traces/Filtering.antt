@@ -54,14 +54,18 @@ pub filterNumbers : Happens
 unfolding answered
 filterNumbers = asTold refl
 
--- Slip: masking the pattern too. "frame byte AND mask byte equals the pattern byte": a pattern bit outside the mask matches nothing, ever
+-- Slip: masking the pattern too. "frame byte AND mask byte equals the pattern byte": a pattern bit outside the mask matches nothing, ever; a
+-- pattern that no frame can have is taken all the same
 pub patternUnmasked : Happens
     (connect 0 5 0 500000 ⇒ gives 1
     ∷ call 1 (startFilter 1 (message 0 0x700 []) (message 0 0x7E8 [])) ⇒ gives 1
     ∷ frame 0 0 0x7E8 [] ⇒ done
     ∷ frame 0 0 0x700 [] ⇒ done
     ∷ call 1 (read 1 (room 36)) ⇒ says 0x10 0 (room 36)
-    ∷ call 1 (startFilter 1 (message 0 0x700 []) (message 0 0x700 [])) ⇒ gives 2
+    ∷ call 1 (startFilter 1 (message 0 0xFFFF_FFFF []) (message 0 0xFFFF_FFFF [])) ⇒ gives 2
+    ∷ frame 0 0 0x7FF [] ⇒ done
+    ∷ call 1 (read 1 (room 36)) ⇒ says 0x10 0 (room 36)
+    ∷ call 1 (startFilter 1 (message 0 0x700 []) (message 0 0x700 [])) ⇒ gives 3
     ∷ frame 0 0 0x7E8 [] ⇒ done
     ∷ frame 0 0 0x6E8 [] ⇒ done
     ∷ call 1 (read 2 (room 72)) ⇒ says 0x09 1 (got 0 0 0x7E8 [] ++ room 36)

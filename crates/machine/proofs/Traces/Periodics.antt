@@ -72,6 +72,8 @@ pub pendingOnce : Happens
     ∷ call 1 (takeNext (room 36)) ⇒ says 0x00 0 (message 0 0x7E8 [])
     ∷ call 1 sent ⇒ done
     ∷ call 1 (takeNext (room 36)) ⇒ says 0x10 0 (room 36)
+    ∷ advance 1000000 ⇒ done
+    ∷ call 1 (takeNext (room 36)) ⇒ says 0x00 0 (message 0 0x7E8 [])
     ∷ [])
 unfolding answered
 pendingOnce = asTold refl
