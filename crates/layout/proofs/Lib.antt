@@ -8,3 +8,4 @@ pub mod Held
 pub mod Good
 pub mod Calls
 pub mod Reach
+pub mod Isolation
