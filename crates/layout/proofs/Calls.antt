@@ -25,7 +25,7 @@ use Rattle.layout.specs.Record.{outCell, inCell}
 use Rattle.layout.specs.Memory.{periodics}
 use Rattle.layout.specs.Reach.{CallBytes, Bytes}
 use Rattle.layout.proofs.Rows.{Rows, rows-set, rows-map}
-use Rattle.layout.proofs.Held.{within-low, within-high, config-make, config-flags, config-rate, body-make, widths-make, frame-make, out-make, echo-make, filterPlace, filters-rows, no-filter, filter-make, periodicPlace, periodics-rows, no-periodic, periodic-make, periodic-sound}
+use Rattle.layout.proofs.Held.{within-low, within-high, config-make, config-flags, config-rate, frame-make, clean-make, echo-make, filterPlace, filters-rows, no-filter, filter-make, periodicPlace, periodics-rows, no-periodic, periodic-make, periodic-sound}
 use Rattle.layout.proofs.Good.{Fine, fine-closed, fl, Good, ok-good, good-ok, put-config, put-filters, put-sending, put-receiving}
 
 -- ---- choices, and tables of tests
@@ -111,7 +111,7 @@ clean-ok flags m h t e =
     let id : idOf (dataOf m) ≤ idLimit (wideOf m) = search nltb→le in
     let high : sizeOf m ≤ 12 = search within-high in
     let l = data-long m h high in
-    out-make flags (wideOf m) (dataOf m) (body-make (dataOf m) (omega (arith, within-low)) (omega arith) (data-bytes m t)) (widths-make flags (wideOf m) (dataOf m) id width)
+    clean-make flags m (record { low = omega (arith, within-low); high = omega arith; bytes = data-bytes m t; identifier = id; width = width })
 
 -- ---- write
 
@@ -235,8 +235,8 @@ frame-ok : (flags now : ℕ) (wide : Bool) (n : ℕ) (b : List ℕ) → now < 2 
 unfolding idBytes
 frame-ok flags now wide n b h hi hl t w =
     let d : (k : ℕ) → T (isByte (k % 256)) = λ k. lt→ltb (k % 256) 256 (omega arith) in
-    frame-make flags now wide (idBytes n ++ b) h (body-make (idBytes n ++ b) (omega arith) (omega arith) (search (join, d)))
-    (widths-make flags wide (idBytes n ++ b) (omega (arith, id-back n b (id-small wide n hi))) w)
+    frame-make flags now wide (idBytes n ++ b) h
+    (record { low = omega arith; high = omega arith; bytes = search (join, d); identifier = omega (arith, id-back n b (id-small wide n hi)); width = w })
 
 -- ---- advance
 

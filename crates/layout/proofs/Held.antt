@@ -2,34 +2,36 @@
 use mathlib.Core.Path.{_≡_, refl, sym, ap, _∙_, subst}
 use Prim.Native.Nat.{ℕ, zero, suc, _+_, _*_, _-_, _^_, _≤_, _<_}
 use native.Mathlib.Omega.{arith}
-use mathlib.Core.Bool.{Bool, true, false, _&&_, _||_}
+use mathlib.Core.Bool.{Bool, true, false, _&&_}
 use mathlib.Core.Option.{Option, none, some}
 use mathlib.Core.List.{List, [], _∷_, _++_}
 use lib.ListN.{length, drop, length-append, length-replicate}
-use lib.Seq.{drop-at}
-use lib.Dec.{T, eqb, leb, ltb, eqb→eq, eqb-refl, leb→le, le→leb, ltb→lt, lt→ltb, lit<}
-use Rattle.codec.specs.Plain.{if_then_else_, within, member, all, isByte, zeros, allZero}
-use Rattle.codec.specs.Code.{Code, byte, word32, both, via, such, mark, many, okSlot, vacant}
+use lib.Seq.{take-at, drop-at}
+use lib.Dec.{T, eqb, leb, ltb, eqb→eq, eqb-refl, leb→le, le→leb, ltb→lt, lt→ltb}
+use Rattle.codec.specs.Plain.{within, member, all, isByte, zeros, allZero}
+use Rattle.codec.specs.Code.{byte, word32, both, via, such, mark, many, vacant}
 use Rattle.codec.proofs.Tests.{left, right, join, or-either}
-use Rattle.codec.proofs.Lists.{all-append, all-zeros}
+use Rattle.codec.proofs.Lists.{all-append, all-take, all-zeros}
 use Rattle.codec.proofs.Lawful.{mark-ok}
-use Rattle.codec.proofs.Many.{many-make}
+use Rattle.codec.proofs.Many.{many-make, many-each}
 use Rattle.machine.specs.Codes.{threeRates}
-use Rattle.machine.specs.Message.{bit, takes, idOf, idLimit, widthFlag, Rec, twelve, received}
+use Rattle.machine.specs.Message.{bit, takes, idOf, idLimit, widthFlag, Rec, twelve, wideOf, dataOf, clean, received}
 use Rattle.machine.specs.Filter.{Filter}
 use Rattle.machine.specs.Channel.{Config, Periodic, isFlags}
 use Rattle.layout.specs.Record.{row, dataParts, dataFits, body, rec36, widthFits, outgoing, incoming, outCell, inCell}
 use Rattle.layout.specs.Memory.{configFits, config, typeOf, filterParts, filterBack, filterFits, filterColumns, filters, periodicParts, periodicBack, periodicFits, periodicColumns, periodics}
+use Rattle.layout.proofs.Memory.{FilterFits, filter-fits}
 use Rattle.layout.proofs.Rows.{Rows, many-rows, beside-rows, eachVia-rows}
 
 -- ---- numbers
 
--- what holds of each number of a list holds of its members
-abbrev Each : (ℕ → Type 0) → List ℕ → Type 0
+-- what holds of each in a list
+abbrev pub Each : {A : Type 0} → (A → Type 0) → List A → Type 0
 Each P [] = Unit {0}
 Each P (x ∷ xs) = P x × Each P xs
 
-pub of-member : (P : ℕ → Type 0) (xs : List ℕ) → Each P xs → (n : ℕ) → T (member n xs) → P n
+-- and so of a number that stands in it
+of-member : (P : ℕ → Type 0) (xs : List ℕ) → Each P xs → (n : ℕ) → T (member n xs) → P n
 unfolding member
 of-member P [] e n t = absurd t
 of-member P (x ∷ xs) e n t = or-either (eqb n x) (member n xs) (λ u. subst P (sym (eqb→eq n x u)) (e .0)) (of-member P xs (e .1) n) t
@@ -45,6 +47,9 @@ ok-word n t = ltb→lt n (2 ^ 32) t
 size-ok : (n : ℕ) → n ≤ 12 → T (byte .ok n)
 unfolding byte
 size-ok n h = lt→ltb n 256 (omega arith)
+
+eq→eqb : (m n : ℕ) → m ≡ n → T (eqb m n)
+eq→eqb m n e = subst (λ (k : ℕ). T (eqb m k)) e (eqb-refl m)
 
 pub within-low : (from to n : ℕ) → T (within from to n) → from ≤ n
 unfolding within
@@ -71,61 +76,119 @@ pub config-rate : (c : Config) → T (config .ok c) → T (member (c .rate) thre
 unfolding config configFits such via both
 config-rate c t = search (left, right)
 
--- ---- a record: at most twelve bytes, with zeros after them
+-- ---- at most twelve bytes, with zeros after them
 
 zeros-bytes : (n : ℕ) → T (all isByte (zeros n))
 zeros-bytes zero = tt
 zeros-bytes (suc n) = zeros-bytes n
 
-pub row-make : (b : List ℕ) (n : ℕ) → length b ≡ n → n ≤ 12 → T (all isByte b) → T (row .ok (twelve b))
+row-make : (b : List ℕ) (n : ℕ) → length b ≡ n → n ≤ 12 → T (all isByte b) → T (row .ok (twelve b))
 unfolding row twelve byte
 row-make b n e h t =
     many-make 12 byte (b ++ zeros (12 - length b)) (length-append b _ ∙ ap (λ (k : ℕ). length b + k) (length-replicate (12 - length b) 0) ∙ omega arith)
     (all-append isByte b (zeros (12 - length b)) t (zeros-bytes (12 - length b)))
 
-pub row-ends : (b : List ℕ) (n : ℕ) → length b ≡ n → T (allZero (drop n (twelve b)))
+row-bytes : (b : List ℕ) → T (row .ok (twelve b)) → T (all isByte b)
+unfolding row twelve byte
+row-bytes b t = subst (λ (m : List ℕ). T (all isByte m)) (take-at b (zeros (12 - length b)) (length b) refl) (all-take isByte (length b) (b ++ zeros (12 - length b)) (many-each 12 byte _ t))
+
+row-ends : (b : List ℕ) (n : ℕ) → length b ≡ n → T (allZero (drop n (twelve b)))
 unfolding twelve
 row-ends b n h = subst (λ (m : List ℕ). T (allZero m)) (sym (drop-at b (zeros (12 - length b)) n h)) (all-zeros (12 - length b))
 
-pub body-make : (b : List ℕ) → 4 ≤ length b → length b ≤ 12 → T (all isByte b) → T (body .ok b)
-unfolding body via such both dataParts dataFits within
-body-make b lo hi t = let small : length b < 2 ^ 32 = omega arith in search (join, word-ok, row-make b (length b) refl hi t, row-ends, eqb-refl, le→leb)
+-- ---- a record: its size is 4 to 12, its identifier in the range of its width, and its width one that the connection takes
 
--- its width is one that the connection takes, and its identifier in that width's range
-pub widths-make : (flags : ℕ) (wide : Bool) (b : List ℕ) → idOf b ≤ idLimit wide → T (takes flags wide) → T (widthFits flags wide b)
-unfolding widthFits
-widths-make flags wide b h t = search (join, le→leb)
+pub record Stored (flags : ℕ) (wide : Bool) (b : List ℕ) : Type 0 where
+  pub low : 4 ≤ length b
+  pub high : length b ≤ 12
+  pub bytes : T (all isByte b)
+  pub identifier : idOf b ≤ idLimit wide
+  pub width : T (takes flags wide)
 
--- a record to read
-in-make : (flags now rx : ℕ) (b : List ℕ) → now < 2 ^ 32 → T (member rx (0 ∷ 1 ∷ 0x100 ∷ 0x101 ∷ [])) → T (body .ok b) → T (widthFits flags (bit 0x100 rx) b)
-    → T (inCell flags .ok (received now rx b))
-unfolding inCell incoming received rec36 such via both word32
-in-make flags now rx b h x t w =
-    let status = of-member (λ (n : ℕ). T (ltb n (2 ^ 32))) _ (tt, (tt, (tt, (tt, tt)))) rx x in
-    search (join, lt→ltb) depth 9
+module _ (flags : ℕ) (wide : Bool) (b : List ℕ) where
+  stored-body : Stored flags wide b → T (body .ok b)
+  unfolding body via such both dataParts dataFits within
+  stored-body s =
+      let small : length b < 2 ^ 32 = omega arith in
+      search (join, word-ok, row-make b (length b) refl (s .high) (s .bytes), row-ends, eqb-refl, le→leb)
 
--- a frame received
-pub frame-make : (flags now : ℕ) (wide : Bool) (b : List ℕ) → now < 2 ^ 32 → T (body .ok b) → T (widthFits flags wide b) → T (inCell flags .ok (received now (widthFlag wide) b))
-unfolding widthFlag bit member
-frame-make flags now true b h t w = in-make flags now 0x100 b h tt t w
-frame-make flags now false b h t w = in-make flags now 0 b h tt t w
+  stored-fits : Stored flags wide b → T (widthFits flags wide b)
+  unfolding widthFits
+  stored-fits s = search (join, le→leb)
 
--- a record to send
-pub out-make : (flags : ℕ) (wide : Bool) (b : List ℕ) → T (body .ok b) → T (widthFits flags wide b)
-    → T (outCell flags .ok (record { rx = 0; tx = widthFlag wide; time = 0; bytes = b }))
-unfolding outCell outgoing rec36 such via both word32 widthFlag bit member
-out-make flags true b t w = search join depth 9
-out-make flags false b t w = search join depth 9
+  body-stored : T (body .ok b) → T (widthFits flags wide b) → Stored flags wide b
+  unfolding body via such both dataParts dataFits widthFits
+  body-stored t w =
+      let size : T (within 4 12 (length b)) = search (left, right) in
+      let row : T (row .ok (twelve b)) = search (left, right) in
+      let id : T (leb (idOf b) (idLimit wide)) = search left in
+      record { low = within-low 4 12 (length b) size; high = within-high 4 12 (length b) size; bytes = row-bytes b row; identifier = leb→le _ _ id; width = search right }
 
--- it comes back with the width that it was sent with
+-- held for reading
+pub record Readable (flags : ℕ) (r : Rec) : Type 0 where
+  pub status : T (member (r .rx) (0 ∷ 1 ∷ 0x100 ∷ 0x101 ∷ []))
+  pub no-flags : r .tx ≡ 0
+  pub stamp : r .time < 2 ^ 32
+  pub stored : Stored flags (bit 0x100 (r .rx)) (r .bytes)
+
+-- held for sending, in flight or of a periodic
+pub record Sendable (flags : ℕ) (r : Rec) : Type 0 where
+  pub no-status : r .rx ≡ 0
+  pub width-flag : T (member (r .tx) (0 ∷ 0x100 ∷ []))
+  pub no-stamp : r .time ≡ 0
+  pub stored : Stored flags (bit 0x100 (r .tx)) (r .bytes)
+
+module _ (flags : ℕ) (r : Rec) where
+  pub in-make : Readable flags r → T (inCell flags .ok r)
+  unfolding inCell incoming rec36 such via both word32
+  in-make q =
+      let status = of-member (λ (n : ℕ). T (ltb n (2 ^ 32))) _ (tt, (tt, (tt, (tt, tt)))) (r .rx) (q .status) in
+      let none : r .tx < 2 ^ 32 = omega arith in
+      search (join, lt→ltb, eq→eqb, stored-body _ _ _ (q .stored), stored-fits _ _ _ (q .stored)) depth 9
+
+  pub in-sound : T (inCell flags .ok r) → Readable flags r
+  unfolding inCell incoming rec36 such via both
+  in-sound t =
+      let body = body-stored flags (bit 0x100 (r .rx)) (r .bytes) (search (left, right) depth 9) (search (left, right) depth 9) in
+      search (left, right, ok-word, eqb→eq) depth 9
+
+  pub out-make : Sendable flags r → T (outCell flags .ok r)
+  unfolding outCell outgoing rec36 such via both word32
+  out-make q =
+      let status : r .rx < 2 ^ 32 = omega arith in
+      let flag = of-member (λ (n : ℕ). T (ltb n (2 ^ 32))) _ (tt, (tt, tt)) (r .tx) (q .width-flag) in
+      let stamp : r .time < 2 ^ 32 = omega arith in
+      search (join, lt→ltb, eq→eqb, stored-body _ _ _ (q .stored), stored-fits _ _ _ (q .stored)) depth 9
+
+  pub out-sound : T (outCell flags .ok r) → Sendable flags r
+  unfolding outCell outgoing rec36 such via both
+  out-sound t =
+      let body = body-stored flags (bit 0x100 (r .tx)) (r .bytes) (search (left, right) depth 9) (search (left, right) depth 9) in
+      search (left, right, eqb→eq) depth 9
+
+-- a frame as it is received; a message as it is stored; what was sent, as it comes back
+pub frame-make : (flags now : ℕ) (wide : Bool) (b : List ℕ) → now < 2 ^ 32 → Stored flags wide b → T (inCell flags .ok (received now (widthFlag wide) b))
+unfolding widthFlag bit member received
+frame-make flags now true b h s = in-make flags _ (record { status = tt; no-flags = refl; stamp = h; stored = s })
+frame-make flags now false b h s = in-make flags _ (record { status = tt; no-flags = refl; stamp = h; stored = s })
+
+pub clean-make : (flags : ℕ) (m : List ℕ) → Stored flags (wideOf m) (dataOf m) → T (outCell flags .ok (clean m))
+unfolding clean widthFlag bit member
+clean-make flags m s = go (wideOf m) s
+  where
+    go : (wide : Bool) → Stored flags wide (dataOf m) → T (outCell flags .ok (record { rx = 0; tx = widthFlag wide; time = 0; bytes = dataOf m }))
+    go true s = out-make flags _ (record { no-status = refl; width-flag = tt; no-stamp = refl; stored = s })
+    go false s = out-make flags _ (record { no-status = refl; width-flag = tt; no-stamp = refl; stored = s })
+
 pub echo-make : (flags now : ℕ) (r : Rec) → now < 2 ^ 32 → T (outCell flags .ok r) → T (inCell flags .ok (received now (r .tx + 1) (r .bytes)))
-unfolding outCell outgoing rec36 such via both bit member
+unfolding bit member received
 echo-make flags now r h t =
-    let b : T (body .ok (r .bytes)) = search (left, right) depth 9 in
-    let w : T (widthFits flags (bit 0x100 (r .tx)) (r .bytes)) = search (left, right) depth 9 in
-    let x : T (member (r .tx) (0 ∷ 0x100 ∷ [])) = search (left, right) depth 9 in
-    of-member (λ (n : ℕ). T (widthFits flags (bit 0x100 n) (r .bytes)) → T (inCell flags .ok (received now (n + 1) (r .bytes)))) (0 ∷ 0x100 ∷ [])
-    (λ v. in-make flags now 1 (r .bytes) h tt b v, (λ v. in-make flags now 0x101 (r .bytes) h tt b v, tt)) (r .tx) x w
+    let q = out-sound flags r t in
+    of-member (λ (n : ℕ). Stored flags (bit 0x100 n) (r .bytes) → T (inCell flags .ok (received now (n + 1) (r .bytes)))) (0 ∷ 0x100 ∷ [])
+    (back 1 tt, (back 0x101 tt, tt)) (r .tx) (q .width-flag) (q .stored)
+  where
+    back : (n : ℕ) → T (member n (0 ∷ 1 ∷ 0x100 ∷ 0x101 ∷ [])) → Stored flags (bit 0x100 n) (r .bytes) → T (inCell flags .ok (received now n (r .bytes)))
+    back n m s = in-make flags _ (record { status = m; no-flags = refl; stamp = h; stored = s })
 
 -- ---- a filter, and the ten places
 
@@ -149,6 +212,14 @@ pub filter-make : (flags n : ℕ) (block wide : Bool) (m p : List ℕ) → T (ta
 unfolding filterPlace filterFits within byte
 filter-make flags n true wide m p w lo hi hm hp tm tp = search (join, size-ok, mark-ok, le→leb, row-make, row-ends) depth 9
 filter-make flags n false wide m p w lo hi hm hp tm tp = search (join, size-ok, mark-ok, le→leb, row-make, row-ends) depth 9
+
+pub filter-sound : (flags : ℕ) (f : Filter) → T (filterPlace flags (some f)) → FilterFits flags (typeOf (f .block)) (f .size) (f .wide) (f .mask) (f .pattern)
+unfolding filterPlace filterFits
+filter-sound flags f t = let u : T (filterFits flags (filterParts (some f))) = search right in go (f .block) u
+  where
+    go : (b : Bool) → T (filterFits flags (typeOf b, (f .wide, (f .size, (f .mask, f .pattern))))) → FilterFits flags (typeOf b) (f .size) (f .wide) (f .mask) (f .pattern)
+    go true u = filter-fits flags 2 (f .size) (f .wide) (f .mask) (f .pattern) u
+    go false u = filter-fits flags 1 (f .size) (f .wide) (f .mask) (f .pattern) u
 
 -- ---- a periodic, and the ten places
 

@@ -1,11 +1,11 @@
 -- DEMAND 3, carried to bytes: calls in a row on a lent memory leave the bytes of the machine's run, and the region of a channel ends the same when
 -- all that does not concern the channel is struck out. Assumes nothing.
-use mathlib.Core.Path.{_≡_, refl, sym, ap, _∙_, subst}
+use mathlib.Core.Path.{_≡_, refl, sym, ap, _∙_}
 use Prim.Native.Nat.{ℕ, _+_, _*_, _<_}
 use native.Mathlib.Omega.{arith}
 use mathlib.Core.Bool.{Bool, true, false}
 use mathlib.Core.List.{List, [], _∷_}
-use lib.ListN.{length, take, drop}
+use lib.ListN.{take, drop}
 use lib.Dec.{T}
 use Rattle.codec.specs.Plain.{if_then_else_}
 use Rattle.machine.specs.Device.{Device, powerOn, Event, chanAt, step, run}

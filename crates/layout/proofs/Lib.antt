@@ -9,3 +9,5 @@ pub mod Good
 pub mod Calls
 pub mod Reach
 pub mod Isolation
+pub mod Unique
+pub mod Limits

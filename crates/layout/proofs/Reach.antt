@@ -6,7 +6,7 @@ use mathlib.Core.List.{List, [], _∷_}
 use lib.ListN.{length}
 use lib.Dec.{T, leb, lit<}
 use Rattle.codec.specs.Plain.{if_then_else_, all}
-use Rattle.codec.specs.Code.{word32, both, via, many}
+use Rattle.codec.specs.Code.{word32, both, via}
 use Rattle.codec.proofs.Tests.{left, right, join}
 use Rattle.codec.proofs.Many.{many-count, many-each, many-make}
 use Rattle.machine.specs.Codes.{threeRates}

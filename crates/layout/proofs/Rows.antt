@@ -6,7 +6,7 @@ use mathlib.Core.List.{List, [], _∷_, map}
 use lib.ListN.{length, set, length-set, length-map}
 use lib.Dec.{T}
 use Rattle.codec.specs.Plain.{all}
-use Rattle.codec.specs.Code.{Code, via, such, many, beside, eachVia}
+use Rattle.codec.specs.Code.{Code, via, many, beside, eachVia}
 use Rattle.codec.proofs.Tests.{left, right, join}
 use Rattle.codec.proofs.Lists.{all-set, all-map}
 use Rattle.codec.proofs.Lawful.{such-test, such-under, such-make}
