@@ -61,13 +61,6 @@ within-high from to n t = leb→le n to (right (leb from n) (leb n to) t)
 
 -- ---- a configuration
 
-pub config-make : (c : Config) → T (isFlags (c .flags)) → T (member (c .rate) threeRates) → T (config .ok c)
-unfolding config configFits such via both isFlags threeRates word32
-config-make c f r =
-    let flags = of-member (λ (n : ℕ). T (ltb n (2 ^ 32))) _ (tt, (tt, (tt, (tt, tt)))) (c .flags) f in
-    let rate = of-member (λ (n : ℕ). T (ltb n (2 ^ 32))) _ (tt, (tt, (tt, tt))) (c .rate) r in
-    search (join, mark-ok)
-
 pub config-flags : (c : Config) → T (config .ok c) → T (isFlags (c .flags))
 unfolding config configFits such via both
 config-flags c t = search (left, right)
@@ -75,6 +68,13 @@ config-flags c t = search (left, right)
 pub config-rate : (c : Config) → T (config .ok c) → T (member (c .rate) threeRates)
 unfolding config configFits such via both
 config-rate c t = search (left, right)
+
+pub config-make : (c : Config) → T (isFlags (c .flags)) → T (member (c .rate) threeRates) → T (config .ok c)
+unfolding config configFits such via both isFlags threeRates word32
+config-make c f r =
+    let flags = of-member (λ (n : ℕ). T (ltb n (2 ^ 32))) _ (tt, (tt, (tt, (tt, tt)))) (c .flags) f in
+    let rate = of-member (λ (n : ℕ). T (ltb n (2 ^ 32))) _ (tt, (tt, (tt, tt))) (c .rate) r in
+    search (join, mark-ok)
 
 -- ---- at most twelve bytes, with zeros after them
 
@@ -243,16 +243,16 @@ pub record Sound (flags : ℕ) (p : Periodic) : Type 0 where
   pub high : p .interval ≤ 65535
   pub phas : p .phase < 1000 * p .interval
 
-pub periodic-make : (flags : ℕ) (p : Periodic) → Sound flags p → T (periodicPlace flags (some p))
-unfolding periodicPlace periodicFits vacant within
-periodic-make flags p s =
-    let i : p .interval < 2 ^ 32 = omega arith in
-    let k : p .phase < 2 ^ 32 = omega arith in
-    search (join, word-ok, mark-ok, le→leb)
-
 pub periodic-sound : (flags : ℕ) (p : Periodic) → T (periodicPlace flags (some p)) → Sound flags p
 unfolding periodicPlace periodicFits vacant within
 periodic-sound flags p t =
     let a : T (within 5 65535 (p .interval)) = search (left, right) in
     let b : T (ltb (p .phase) (1000 * p .interval)) = search (left, right) in
     record { mess = search (left, right); low = within-low 5 65535 (p .interval) a; high = within-high 5 65535 (p .interval) a; phas = ltb→lt _ _ b }
+
+pub periodic-make : (flags : ℕ) (p : Periodic) → Sound flags p → T (periodicPlace flags (some p))
+unfolding periodicPlace periodicFits vacant within
+periodic-make flags p s =
+    let i : p .interval < 2 ^ 32 = omega arith in
+    let k : p .phase < 2 ^ 32 = omega arith in
+    search (join, word-ok, mark-ok, le→leb)
