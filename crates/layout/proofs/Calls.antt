@@ -3,13 +3,13 @@ use mathlib.Core.Path.{_≡_, refl, sym, ap, _∙_, subst}
 use Prim.Native.Nat.{ℕ, zero, suc, _+_, _*_, _-_, _%_, _^_, _≤_, _<_, min}
 use native.Mathlib.Nat.{mod-lt}
 use native.Mathlib.Omega.{arith}
-use mathlib.Core.Bool.{Bool, true, false, _&&_, _||_, not}
+use mathlib.Core.Bool.{Bool, true, false, _&&_, not}
 use mathlib.Core.Option.{Option, none, some}
 use mathlib.Core.List.{List, [], _∷_, _++_}
 use lib.ListN.{length, set, drop, length-drop}
 use lib.Seq.{length-take-le}
 use lib.Dec.{T, eqb, leb, ltb, eqb→eq, ltb→lt, lt→ltb, nleb→lt, nltb→le}
-use Rattle.codec.specs.Plain.{if_then_else_, within, member, all, isByte}
+use Rattle.codec.specs.Plain.{within, member, all, isByte}
 use Rattle.codec.specs.Word.{word, wordAt}
 use Rattle.codec.specs.Code.{Code, upTo, upToOne}
 use Rattle.codec.proofs.Tests.{left, right, join}
@@ -24,60 +24,12 @@ use Rattle.machine.specs.Device.{Event, connect, call, frame, advance, close, c
 use Rattle.layout.specs.Record.{outCell, inCell}
 use Rattle.layout.specs.Memory.{periodics}
 use Rattle.layout.specs.Reach.{CallBytes, Bytes}
+use Rattle.layout.proofs.Tables.{by-test, Failed, Telling, failed, by-code, own-code, yes, neither}
 use Rattle.layout.proofs.Rows.{Rows, rows-set, rows-map}
 use Rattle.layout.proofs.Held.{within-low, within-high, config-make, config-flags, config-rate, frame-make, clean-make, echo-make, filterPlace, filters-rows, no-filter, filter-make, periodicPlace, periodics-rows, no-periodic, periodic-make, periodic-sound}
 use Rattle.layout.proofs.Good.{Fine, fine-closed, fl, Good, ok-good, good-ok, put-config, put-filters, put-sending, put-receiving}
 
--- ---- choices, and tables of tests
-
--- a choice has what both of its sides have
-pub by-test : {A : Type 0} (P : A → Type 0) (b : Bool) (x y : A) → (T b → P x) → P y → P (if b then x else y)
-by-test P true x y f t = f tt
-by-test P false x y f t = t
-
--- every test of a table failed
-abbrev Failed : List (Bool × ℕ) → Type 0
-Failed [] = Unit {0}
-Failed (t ∷ ts) = T (not (t .0)) × Failed ts
-
--- no test that is true gives 0x00
-abbrev Telling : List (Bool × ℕ) → Type 0
-Telling ts = T (all (λ t. not (eqb (t .1) 0 && t .0)) ts)
-
-first-failed : (b : Bool) (k : ℕ) (ts : List (Bool × ℕ)) → T (not (eqb k 0 && b)) → (if b then k else codeOf ts) ≡ 0 → T (not b) × (codeOf ts ≡ 0)
-first-failed true k ts u e = absurd (subst (λ (n : ℕ). T (not (eqb n 0 && true))) e u)
-first-failed false k ts u e = (tt, e)
-
--- so where a table gives 0x00, every test failed
-failed : (ts : List (Bool × ℕ)) → Telling ts → codeOf ts ≡ 0 → Failed ts
-unfolding codeOf
-failed [] u e = tt
-failed (t ∷ ts) u e =
-    let h = first-failed (t .0) (t .1) ts (left (not (eqb (t .1) 0 && t .0)) _ u) e in (h .0, failed ts (right (not (eqb (t .1) 0 && t .0)) _ u) (h .1))
-
--- what a table's code decides
-by-code : (P : ℕ → Type 0) (ts : List (Bool × ℕ)) → Telling ts → (Failed ts → P 0) → ((k : ℕ) → P (suc k)) → P (codeOf ts)
-by-code P ts u f g = go (codeOf ts) (λ e. f (failed ts u e))
-  where
-    go : (k : ℕ) → (k ≡ 0 → P 0) → P k
-    go zero h = h refl
-    go (suc k) h = g k
-
--- a code that is a test's own, as a message's, is given only where it is not 0x00
-own-code : (k : ℕ) → T (not (eqb k 0 && not (eqb k 0)))
-own-code k = go (eqb k 0)
-  where
-    go : (b : Bool) → T (not (b && not b))
-    go true = tt
-    go false = tt
-
-yes : (b : Bool) → T (not (not b)) → T b
-yes true t = tt
-yes false t = t
-
-neither : (a b : Bool) → T (not (a || b)) → T (not a) × T (not b)
-neither true b t = absurd t
-neither false b t = (tt, t)
+-- ---- outcomes
 
 -- what an outcome leaves can be held
 abbrev Left : Outcome → Type 0
@@ -93,16 +45,16 @@ long-enough : (b : List ℕ) (n : ℕ) → T (not (shorter b n)) → 36 * n ≤ 
 unfolding shorter
 long-enough b n t = nltb→le (length b) (36 * n) t
 
-data-long : (m : List ℕ) → 36 ≤ length m → sizeOf m ≤ 12 → length (dataOf m) ≡ sizeOf m
+pub data-long : (m : List ℕ) → 36 ≤ length m → sizeOf m ≤ 12 → length (dataOf m) ≡ sizeOf m
 unfolding dataOf
 data-long m h k = length-take-le (sizeOf m) (drop 24 m) (omega (arith, length-drop 24 m))
 
-data-bytes : (m : List ℕ) → T (all isByte m) → T (all isByte (dataOf m))
+pub data-bytes : (m : List ℕ) → T (all isByte m) → T (all isByte (dataOf m))
 unfolding dataOf
 data-bytes m t = all-take isByte (sizeOf m) (drop 24 m) (all-drop isByte 24 m t)
 
 -- one that passed its tests, as it is stored
-clean-ok : (flags : ℕ) (m : List ℕ) → 36 ≤ length m → T (all isByte m) → messageCode flags m ≡ 0 → T (outCell flags .ok (clean m))
+pub clean-ok : (flags : ℕ) (m : List ℕ) → 36 ≤ length m → T (all isByte m) → messageCode flags m ≡ 0 → T (outCell flags .ok (clean m))
 unfolding messageCode clean
 clean-ok flags m h t e =
     let f = failed _ tt e in
@@ -115,7 +67,7 @@ clean-ok flags m h t e =
 
 -- ---- write
 
-writing-ok : (flags n : ℕ) (b : List ℕ) (held : List Rec) (count : ℕ) → 36 * n ≤ length b → T (all isByte b) → T (upTo 16 (outCell flags) .ok held)
+pub writing-ok : (flags n : ℕ) (b : List ℕ) (held : List Rec) (count : ℕ) → 36 * n ≤ length b → T (all isByte b) → T (upTo 16 (outCell flags) .ok held)
     → T (upTo 16 (outCell flags) .ok (writing flags n b held count .held))
 unfolding writing writeCode unlessStopped
 writing-ok flags zero b held count h t u = u
@@ -137,7 +89,7 @@ pub record NextOk (flags n : ℕ) (x : Next) : Type 0 where
   pub written-ok : T (upTo 16 (outCell flags) .ok (x .written))
 
 -- the choice among n periodics, where there is one
-abbrev MayOk : ℕ → ℕ → Option Next → Type 0
+abbrev pub MayOk : ℕ → ℕ → Option Next → Type 0
 MayOk flags n none = Unit {0}
 MayOk flags n (some x) = NextOk flags n x
 
@@ -147,7 +99,7 @@ behind-ok flags n s none t m = tt
 behind-ok flags n s (some x) t m =
     record { chosen-ok = m .chosen-ok; count = ap suc (m .count); each = join (periodicPlace flags s) _ t (m .each); written-ok = m .written-ok }
 
-next-ok : (flags : ℕ) (ps : Slots Periodic) (ws : List Rec) → T (all (periodicPlace flags) ps) → T (upTo 16 (outCell flags) .ok ws) → MayOk flags (length ps) (next ps ws)
+pub next-ok : (flags : ℕ) (ps : Slots Periodic) (ws : List Rec) → T (all (periodicPlace flags) ps) → T (upTo 16 (outCell flags) .ok ws) → MayOk flags (length ps) (next ps ws)
 unfolding next nextWritten calm
 next-ok flags [] [] t u = tt
 next-ok flags [] (w ∷ ws) t u =
@@ -164,7 +116,7 @@ next-ok flags (some p ∷ ps) ws t u =
     let s = periodic-sound flags p h in
     let c = periodic-make flags (calm p) (search) in
     by-test (MayOk flags (suc (length ps))) (p .pending) _ _
-    (λ b. record { chosen-ok = s .mess; count = refl; each = join (periodicPlace flags (some (calm p))) _ c r; written-ok = u })
+    (λ b. record { chosen-ok = s .message-ok; count = refl; each = join (periodicPlace flags (some (calm p))) _ c r; written-ok = u })
     (behind-ok flags (length ps) (some p) (next ps ws) h (next-ok flags ps ws r u))
 
 -- ---- what an open channel is left with
@@ -230,7 +182,7 @@ unfolding idLimit
 id-small true n h = omega arith
 id-small false n h = omega arith
 
-frame-ok : (flags now : ℕ) (wide : Bool) (n : ℕ) (b : List ℕ) → now < 2 ^ 32 → n ≤ idLimit wide → length b ≤ 8 → T (all isByte b) → T (takes flags wide)
+pub frame-ok : (flags now : ℕ) (wide : Bool) (n : ℕ) (b : List ℕ) → now < 2 ^ 32 → n ≤ idLimit wide → length b ≤ 8 → T (all isByte b) → T (takes flags wide)
     → T (inCell flags .ok (received now (widthFlag wide) (idBytes n ++ b)))
 unfolding idBytes
 frame-ok flags now wide n b h hi hl t w =
@@ -240,12 +192,12 @@ frame-ok flags now wide n b h hi hl t w =
 
 -- ---- advance
 
-later-ok : (flags t : ℕ) (x : Option Periodic) → T (periodicPlace flags x) → T (periodicPlace flags (laterSlot t x))
+pub later-ok : (flags t : ℕ) (x : Option Periodic) → T (periodicPlace flags x) → T (periodicPlace flags (laterSlot t x))
 unfolding laterSlot later period
 later-ok flags t none k = k
 later-ok flags t (some p) k =
     let s = periodic-sound flags p k in
-    periodic-make flags _ (record { mess = s .mess; low = s .low; high = s .high; phas = mod-lt (p .phase + t) (omega (arith, s .low)) })
+    periodic-make flags _ (record { message-ok = s .message-ok; low = s .low; high = s .high; phase-below = mod-lt (p .phase + t) (omega (arith, s .low)) })
 
 -- ---- every call
 
@@ -279,10 +231,10 @@ module _ (rates : List ℕ) (known : Known rates) (now : ℕ) (h : now < 2 ^ 32)
       set-periodic o g _ _
       (periodic-make (fl o) _
       (record {
-        mess = clean-ok (fl o) m (long-enough m 1 (f .0)) b (eqb→eq k 0 (yes (eqb k 0) (f .1 .1 .0)));
+        message-ok = clean-ok (fl o) m (long-enough m 1 (f .0)) b (eqb→eq k 0 (yes (eqb k 0) (f .1 .1 .0)));
         low = low;
         high = within-high 5 65535 i wait;
-        phas = omega arith;
+        phase-below = omega arith;
       })))
   fine-open o g (stopPeriodic n) b = unless-fine _ (opened o) [] _ tt (good-ok o g) (λ f. set-periodic o g (n - 1) none (no-periodic (fl o)))
   fine-open o g (write n m) b =

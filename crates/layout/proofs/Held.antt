@@ -237,20 +237,20 @@ pub no-periodic : (flags : ℕ) → T (periodicPlace flags none)
 unfolding periodicPlace periodicFits word32 mark vacant via such byte
 no-periodic flags = tt
 
-pub record Sound (flags : ℕ) (p : Periodic) : Type 0 where
-  pub mess : T (outCell flags .ok (p .message))
+pub record PeriodicFits (flags : ℕ) (p : Periodic) : Type 0 where
+  pub message-ok : T (outCell flags .ok (p .message))
   pub low : 5 ≤ p .interval
   pub high : p .interval ≤ 65535
-  pub phas : p .phase < 1000 * p .interval
+  pub phase-below : p .phase < 1000 * p .interval
 
-pub periodic-sound : (flags : ℕ) (p : Periodic) → T (periodicPlace flags (some p)) → Sound flags p
+pub periodic-sound : (flags : ℕ) (p : Periodic) → T (periodicPlace flags (some p)) → PeriodicFits flags p
 unfolding periodicPlace periodicFits vacant within
 periodic-sound flags p t =
     let a : T (within 5 65535 (p .interval)) = search (left, right) in
     let b : T (ltb (p .phase) (1000 * p .interval)) = search (left, right) in
-    record { mess = search (left, right); low = within-low 5 65535 (p .interval) a; high = within-high 5 65535 (p .interval) a; phas = ltb→lt _ _ b }
+    record { message-ok = search (left, right); low = within-low 5 65535 (p .interval) a; high = within-high 5 65535 (p .interval) a; phase-below = ltb→lt _ _ b }
 
-pub periodic-make : (flags : ℕ) (p : Periodic) → Sound flags p → T (periodicPlace flags (some p))
+pub periodic-make : (flags : ℕ) (p : Periodic) → PeriodicFits flags p → T (periodicPlace flags (some p))
 unfolding periodicPlace periodicFits vacant within
 periodic-make flags p s =
     let i : p .interval < 2 ^ 32 = omega arith in

@@ -3,6 +3,7 @@ pub mod Sizes
 pub mod Places
 pub mod Region
 pub mod Entry
+pub mod Tables
 pub mod Rows
 pub mod Held
 pub mod Good

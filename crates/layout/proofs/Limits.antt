@@ -19,7 +19,7 @@ use Rattle.machine.specs.Device.{chanAt}
 use Rattle.layout.specs.Record.{outCell, inCell}
 use Rattle.layout.specs.Memory.{typeOf, region, load, valid}
 use Rattle.layout.proofs.Memory.{FilterFits, ok-load}
-use Rattle.layout.proofs.Held.{Each, config-flags, config-rate, Readable, in-sound, Sendable, out-sound, filterPlace, filters-rows, filter-sound, periodicPlace, periodics-rows, Sound, periodic-sound}
+use Rattle.layout.proofs.Held.{Each, config-flags, config-rate, Readable, in-sound, Sendable, out-sound, filterPlace, filters-rows, filter-sound, periodicPlace, periodics-rows, PeriodicFits, periodic-sound}
 use Rattle.layout.proofs.Good.{Fine, fine-closed, fl, Good, ok-good}
 use Rattle.layout.proofs.Reach.{ok-sane}
 
@@ -49,7 +49,7 @@ pub record Limits (o : Open) : Type 0 where
   pub ten-filters : length (o .filters) ≡ 10
   pub each-filter : Each (If (FilterLimits (fl o))) (o .filters)
   pub ten-periodics : length (o .sending .periodics) ≡ 10
-  pub each-periodic : Each (If (Sound (fl o))) (o .sending .periodics)
+  pub each-periodic : Each (If (PeriodicFits (fl o))) (o .sending .periodics)
   pub written-count : length (o .sending .written) ≤ 16
   pub each-written : Each (Sendable (fl o)) (o .sending .written)
   pub in-flight : If (Sendable (fl o)) (o .sending .flight)
@@ -66,7 +66,7 @@ good-limits o g =
       each-filter = each-of _ _ (if-taken (filterPlace k) (FilterLimits k) (filter-sound k)) (o .filters) (filters-rows k .each (o .filters) (g .filters-ok));
       ten-periodics = periodics-rows k .count (o .sending .periodics) (g .periodics-ok);
       each-periodic =
-          each-of _ _ (if-taken (periodicPlace k) (Sound k) (periodic-sound k)) (o .sending .periodics) (periodics-rows k .each (o .sending .periodics) (g .periodics-ok));
+          each-of _ _ (if-taken (periodicPlace k) (PeriodicFits k) (periodic-sound k)) (o .sending .periodics) (periodics-rows k .each (o .sending .periodics) (g .periodics-ok));
       written-count = upTo-count 16 (outCell k) (o .sending .written) (g .written-ok);
       each-written = each-of (outCell k .ok) _ (out-sound k) (o .sending .written) (upTo-each 16 (outCell k) (o .sending .written) (g .written-ok));
       in-flight = if-taken (upToOne (outCell k) .ok) (Sendable k) (λ r t. out-sound k r (some-one (outCell k) r t)) (o .sending .flight) (g .flight-ok);
