@@ -25,15 +25,12 @@ use Rattle.layout.specs.Memory.{openPart, chanBack, region, deviceParts,
 use Rattle.layout.specs.Promise.{Result, gives, answered, outcome, Opened, regionGives, callOutcome, Found, Placed}
 use Rattle.layout.proofs.Memory.{image-load, ok-load, region-lawful}
 use Rattle.layout.proofs.Sizes.{memory-size, region-size}
+use Rattle.layout.proofs.Good.{fine-closed}
 use Rattle.layout.proofs.Places.{region-place, clock-place, chans-place, chans-ok}
 
 memory-put : (d : Device) → image d ≡ memory .put d
 unfolding image
 memory-put d = refl
-
-closed-ok : T (region .ok closed)
-unfolding region via slot
-closed-ok = tt
 
 -- the first byte of a region is 0 or 1
 mark-either : (c : Chan) → (getD (region .put c) 0 0 ≡ 0 → ⊥) → getD (region .put c) 0 0 ≡ 1
@@ -81,7 +78,7 @@ module _ (m : List ℕ) (v : T (valid m)) where
   module _ (i : ℕ) (h : i < 4) where
     chan-ok : T (region .ok (chanAt i (load m)))
     unfolding chanAt
-    chan-ok = all-at (region .ok) (load m .chans) i closed closed-ok (many-each 4 region (load m .chans) (chans-ok (load m) (ok-load m v)))
+    chan-ok = all-at (region .ok) (load m .chans) i closed fine-closed (many-each 4 region (load m .chans) (chans-ok (load m) (ok-load m v)))
 
     pub region-is : take 2498 (drop (4 + i * 2498) m) ≡ region .put (chanAt i (load m))
     region-is =

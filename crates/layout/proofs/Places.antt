@@ -10,7 +10,7 @@ use lib.Dec.{T}
 use Rattle.codec.specs.Plain.{all, zeros}
 use Rattle.codec.specs.Word.{word}
 use Rattle.codec.specs.Code.{Code, word32, both, bothOn, via, such, mark, many, slot, putVacant, vacant, upTo, listOf, upToOne, beside, eachVia, putAll}
-use Rattle.codec.proofs.Lawful.{Lawful, such-under, both-first, both-second, on-first, on-second}
+use Rattle.codec.proofs.Lawful.{Lawful, such-under, both-first, both-second}
 use Rattle.codec.proofs.Many.{many-count, many-each, upTo-lawful}
 use Rattle.codec.proofs.Place.{Place, inside, at, in-first, in-second, in-on-first, in-on-second, in-such, in-via, in-slot, in-many}
 use Rattle.machine.specs.Message.{Rec}
@@ -21,6 +21,8 @@ use Rattle.machine.proofs.Dispatch.{withChan}
 use Rattle.layout.specs.Record.{outCell, inCell, rec36}
 use Rattle.layout.specs.Memory.{configParts, configBack, configFits, config, filters, PeriodicRow, periodicParts, periodicColumns, periodics, sendingParts, sendingBack, sendingPart, receivingParts, receivingBack, receivingPart, rest, openParts, openBack, openPart, chanParts, chanBack, region, deviceParts, deviceBack, memory}
 use Rattle.layout.proofs.Memory.{config-lawful, filters-lawful, periodics-lawful, sending-lawful, out-lawful, in-lawful, region-lawful, chan-there}
+pub use Rattle.layout.proofs.Good.{fl}
+use Rattle.layout.proofs.Good.{Good, ok-good, good-sending, good-receiving}
 use Rattle.layout.proofs.Sizes.{region-size, config-size, filters-size, periodics-size, written-size, queue-size, sending-size}
 
 -- ---- a device: its clock, its channels
@@ -104,9 +106,6 @@ rest-same j k y =
 
 -- ---- the parts of an open channel, in its region
 
-abbrev pub fl : Open → ℕ
-fl o = o .config .flags
-
 abbrev Fields : Code (ℕ × (ℕ × Bool))
 Fields = both word32 (both word32 mark)
 
@@ -150,12 +149,11 @@ module _ (o : Open) where
   loopback-place = inside config-place (field-place (inside (in-second word32 (both word32 mark) (configParts (o .config)) refl) (in-second word32 mark (configParts (o .config) .1) refl)))
 
   module _ (t : T (region .ok (opened o))) where
-    open-ok : T (bothOn (λ c. c .flags) config rest .ok (openParts o))
-    unfolding region openPart via slot
-    open-ok = t
+    good : Good o
+    good = ok-good o t
 
     pub config-ok : T (config .ok (o .config))
-    config-ok = on-first (λ c. c .flags) config rest (openParts o) open-ok
+    config-ok = good .config-ok
 
     fields-ok : T (Fields .ok (configParts (o .config)))
     unfolding config via
@@ -175,21 +173,14 @@ module _ (o : Open) where
         (inside (in-via openParts openBack (bothOn (λ c. c .flags) config rest) o (λ p. refl))
         (in-on-second (λ c. c .flags) config rest (openParts o) (config-lawful .long (o .config) config-ok))))
 
-    rest-ok : T (both (filters (fl o)) (Behind (fl o)) .ok (openParts o .1))
-    unfolding rest
-    rest-ok = on-second (λ c. c .flags) config rest (openParts o) open-ok
-
     pub filters-ok : T (filters (fl o) .ok (o .filters))
-    filters-ok = both-first (filters (fl o)) (Behind (fl o)) (openParts o .1) rest-ok
-
-    behind-ok : T (Behind (fl o) .ok (o .sending, o .receiving))
-    behind-ok = both-second (filters (fl o)) (Behind (fl o)) (openParts o .1) rest-ok
+    filters-ok = good .filters-ok
 
     pub sending-ok : T (sendingPart (fl o) .ok (o .sending))
-    sending-ok = both-first (sendingPart (fl o)) (receivingPart (fl o)) (o .sending, o .receiving) behind-ok
+    sending-ok = good-sending o good
 
     pub receiving-ok : T (receivingPart (fl o) .ok (o .receiving))
-    receiving-ok = both-second (sendingPart (fl o)) (receivingPart (fl o)) (o .sending, o .receiving) behind-ok
+    receiving-ok = good-receiving o good
 
     pub filters-place : Place region (filters (fl o)) (opened o) 10 (o .filters) (withFilters o)
     unfolding withFilters rest
@@ -209,21 +200,14 @@ module _ (o : Open) where
         (inside (in-first (sendingPart (fl o)) (receivingPart (fl o)) (o .sending, o .receiving))
         (in-via sendingParts sendingBack (Sends (fl o)) (o .sending) (λ p. refl)))
 
-    sends-ok : T (Sends (fl o) .ok (sendingParts (o .sending)))
-    unfolding sendingPart via
-    sends-ok = sending-ok
-
     pub periodics-ok : T (periodics (fl o) .ok (o .sending .periodics))
-    periodics-ok = both-first (periodics (fl o)) (Late (fl o)) (sendingParts (o .sending)) sends-ok
-
-    late-ok : T (Late (fl o) .ok (o .sending .written, o .sending .flight))
-    late-ok = both-second (periodics (fl o)) (Late (fl o)) (sendingParts (o .sending)) sends-ok
+    periodics-ok = good .periodics-ok
 
     pub written-ok : T (upTo 16 (outCell (fl o)) .ok (o .sending .written))
-    written-ok = both-first (upTo 16 (outCell (fl o))) (upToOne (outCell (fl o))) (o .sending .written, o .sending .flight) late-ok
+    written-ok = good .written-ok
 
     pub flight-ok : T (upToOne (outCell (fl o)) .ok (o .sending .flight))
-    flight-ok = both-second (upTo 16 (outCell (fl o))) (upToOne (outCell (fl o))) (o .sending .written, o .sending .flight) late-ok
+    flight-ok = good .flight-ok
 
     pub periodics-place : Place region (periodics (fl o)) (opened o) 280 (o .sending .periodics) (λ p. withSending o p (o .sending .written) (o .sending .flight))
     periodics-place = inside sending-place (in-first (periodics (fl o)) (Late (fl o)) (sendingParts (o .sending)))
@@ -249,12 +233,8 @@ module _ (o : Open) where
         at (ap (λ (n : ℕ). 280 + n) (sending-size (fl o)))
         (inside behind-place (in-second (sendingPart (fl o)) (receivingPart (fl o)) (o .sending, o .receiving) (sending-lawful (fl o) .long (o .sending) sending-ok)))
 
-    receives-ok : T (Receives (fl o) .ok (receivingParts (o .receiving)))
-    unfolding receivingPart via
-    receives-ok = receiving-ok
-
     pub queue-ok : T (upTo 32 (inCell (fl o)) .ok (o .receiving .queue))
-    queue-ok = both-first (upTo 32 (inCell (fl o))) mark (receivingParts (o .receiving)) receives-ok
+    queue-ok = good .queue-ok
 
     receives-place : Place region (Receives (fl o)) (opened o) 1344 (receivingParts (o .receiving)) (λ y. withReceiving o (y .0) (y .1))
     unfolding receivingPart
