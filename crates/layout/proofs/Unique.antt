@@ -2,13 +2,12 @@
 -- a refusal leaves the memory and the lent buffer. Assumes nothing.
 use mathlib.Core.Path.{_≡_, refl, sym, ap, _∙_}
 use Prim.Native.Nat.{ℕ}
-use mathlib.Core.Bool.{Bool, true, false}
+use mathlib.Core.Bool.{true}
 use mathlib.Core.List.{List, []}
 use lib.Dec.{T}
 use lib.ListN.{length}
 use borrow.Author.Tests.{eq-eqb, ne-eqb}
-use Rattle.codec.specs.Plain.{if_then_else_, member, zeros}
-use Rattle.codec.proofs.Tests.{true-T}
+use Rattle.codec.specs.Plain.{member, zeros}
 use Rattle.machine.specs.Codes.{table}
 use Rattle.machine.specs.Channel.{Answer}
 use Rattle.machine.specs.Device.{Event, lentBy, step}
@@ -19,12 +18,13 @@ use Rattle.layout.specs.Promise.{Result, gives, answered, outcome, power
 use Rattle.layout.proofs.Memory.{image-load}
 use Rattle.layout.proofs.Sizes.{memory-size, power-on-zeros}
 use Rattle.layout.proofs.Entry.{four}
+use Rattle.layout.proofs.Tables.{by-test}
 
 -- a result without its memory
 abbrev pub answerOf : Result → Answer
 answerOf r = record { code = r .code; value = r .value; buffer = r .buffer }
 
--- ANY TWO RESULTS WHICH MEET A PROMISE ARE EQUAL
+-- any two results which meet a promise are equal: a promise is an equation with one definition
 abbrev pub Settled : Result → Type 0
 Settled promised = (r s : Result) → r ≡ promised → s ≡ promised → r ≡ s
 
@@ -34,17 +34,14 @@ settled promised r s p q = p ∙ sym q
 -- ---- every call
 
 module _ (rates m : List ℕ) (e : Event) where
+  -- ANY TWO RESULTS WHICH MEET THE PROMISE OF A CALL ARE EQUAL
   pub call-settled : Settled (outcome rates m e)
   call-settled = settled (outcome rates m e)
 
   -- what holds of a memory that is not valid, and of one that is, holds of the outcome
   by-memory : (P : Result → Type 0) → P (gives 0x1A 0 (lentBy e) m) → (T (valid m) → P (answered (step rates (load m) e .1) (image (step rates (load m) e .0)))) → P (outcome rates m e)
   unfolding outcome
-  by-memory P bad good = go (valid m) refl
-    where
-      go : (b : Bool) → valid m ≡ b → P (if b then answered (step rates (load m) e .1) (image (step rates (load m) e .0)) else gives 0x1A 0 (lentBy e) m)
-      go true q = good (true-T (valid m) q)
-      go false q = bad
+  by-memory P bad good = by-test P (valid m) _ _ good bad
 
   -- every code is in the scope's table
   pub code-in-table : T (member (outcome rates m e .code) table)
@@ -59,6 +56,7 @@ module _ (rates m : List ℕ) (e : Event) where
 -- ---- power-on
 
 module _ (m : List ℕ) where
+  -- ANY TWO RESULTS WHICH MEET THE PROMISE OF POWER-ON ARE EQUAL
   pub power-on-settled : Settled (powerOnOutcome m)
   power-on-settled = settled (powerOnOutcome m)
 
