@@ -46,7 +46,7 @@ module _ {A : Type 0} (p : A → Bool) where
   all-at (x ∷ xs) zero d u t = left (p x) (all p xs) t
   all-at (x ∷ xs) (suc i) d u t = all-at xs i d u (right (p x) (all p xs) t)
 
-all-split : {A : Type 0} (p : A → Bool) (xs ys : List A) → all p (xs ++ ys) ≡ (all p xs && all p ys)
+pub all-split : {A : Type 0} (p : A → Bool) (xs ys : List A) → all p (xs ++ ys) ≡ (all p xs && all p ys)
 all-split p [] ys = refl
 all-split p (x ∷ xs) ys = go (p x) (all-split p xs ys)
   where

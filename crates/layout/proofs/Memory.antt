@@ -86,7 +86,7 @@ unfolding inCell
 in-lawful flags = such-lawful (incoming flags) rec-lawful
 
 -- a record is never zeros alone: its protocol is 5
-out-shows : (flags : ℕ) (r : Rec) → T (outCell flags .ok r) → allZero (outCell flags .put r) ≡ false
+pub out-shows : (flags : ℕ) (r : Rec) → T (outCell flags .ok r) → allZero (outCell flags .put r) ≡ false
 unfolding outCell such rec36 via both word32 word
 out-shows flags r t = refl
 

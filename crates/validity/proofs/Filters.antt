@@ -1,0 +1,119 @@
+-- What validity is of ten filters in columns, filter by filter, as code finds it out. Assumes nothing.
+use mathlib.Core.Path.{_≡_, refl, sym, ap, ap₂, _∙_}
+use Prim.Native.Nat.{ℕ, zero, suc, _+_, _*_, _≤_, _<_}
+use native.Mathlib.Omega.{arith}
+use mathlib.Core.Bool.{Bool, true, false, _&&_, not}
+use mathlib.Core.List.{List, []}
+use lib.ListN.{length, getD, take, drop}
+use lib.Seq.{drop-drop}
+use lib.Dec.{T, eqb, leb, eqb·suc-zero}
+use borrow.Author.Tests.{eq-eqb, ne-eqb, lt-leb}
+use Rattle.codec.specs.Plain.{if_then_else_, within, zeros, allZero, allBelow}
+use Rattle.codec.specs.Code.{byte, both, via, such, mark, many, beside, eachVia}
+use Rattle.codec.proofs.Tests.{and-true, and-false}
+use Rattle.codec.proofs.Lawful.{byte-lawful, mark-lawful}
+use Rattle.machine.specs.Message.{takes}
+use Rattle.machine.specs.Filter.{noneYet}
+use Rattle.layout.specs.Record.{row}
+use Rattle.layout.specs.Memory.{filterParts, filterBack, filterFits, filterColumns, filters}
+use Rattle.layout.proofs.Memory.{row-lawful, filters-lawful}
+use Rattle.validity.specs.Place.{filterAt, filterGood}
+use Rattle.validity.proofs.Parts.{Bytes, zeros-good}
+use Rattle.validity.proofs.Columns.{many-rows, beside-rows, each-rows, below-same, byte-row, byte-row-got, mark-row, mark-row-got, row-row, row-row-got}
+
+-- ---- ten filters, filter by filter
+
+module _ (flags : ℕ) (m : List ℕ) (h : length m ≡ 270) (t : Bytes m) where
+  d20 : drop 10 (drop 10 m) ≡ drop 20 m
+  d20 = drop-drop 10 10 m
+
+  d30 : drop 10 (drop 10 (drop 10 m)) ≡ drop 30 m
+  d30 = ap (λ (x : List ℕ). drop 10 x) d20 ∙ drop-drop 10 20 m
+
+  d150 : drop 120 (drop 10 (drop 10 (drop 10 m))) ≡ drop 150 m
+  d150 = ap (λ (x : List ℕ). drop 120 x) d30 ∙ drop-drop 120 30 m
+
+  pub filters-flat : allBelow 10 (λ i. filterGood flags i m) ≡ filters flags .valid m
+  unfolding filters filterColumns filterGood filterAt byte mark via such row many
+  filters-flat =
+      let rows =
+      beside-rows 10 byte-lawful 0 (beside-rows 10 mark-lawful false (beside-rows 10 byte-lawful 0 (beside-rows 10 row-lawful [] (many-rows row-lawful 10 [])))) in
+      sym (each-rows 10 filterParts filterBack (filterFits flags) rows m
+      ∙ below-same 10 _ _ (λ i l.
+      let first : 0 + i ≡ i = omega arith in
+      (λ j.
+      (byte-row m t 0 i m refl j
+      && (mark-row m t 10 i (drop 10 m) refl j
+      && (byte-row m t 20 i (drop 10 (drop 10 m)) d20 j
+      && (row-row m t 30 i (drop 10 (drop 10 (drop 10 m))) d30 j
+      && row-row m t 150 i (drop 120 (drop 10 (drop 10 (drop 10 m)))) d150 j))))
+      && filterFits flags (
+        (byte-row-got m t 0 i m refl ∙ ap (λ (k : ℕ). getD m k 0) first) j,
+        (
+          mark-row-got m t 10 i (drop 10 m) refl j,
+          (
+            byte-row-got m t 20 i (drop 10 (drop 10 m)) d20 j,
+            (
+              row-row-got m t 30 i (drop 10 (drop 10 (drop 10 m))) d30 (omega arith) j,
+              row-row-got m t 150 i (drop 120 (drop 10 (drop 10 (drop 10 m)))) d150 (omega arith) j,
+            ),
+          ),
+        ),
+      ))
+      ∙ ap (λ (b : Bool). b && filterFits flags (filterAt i m)) (and-true (leb (getD m (10 + i) 0) 1))))
+
+none-ok : (flags : ℕ) → T (filters flags .ok noneYet)
+unfolding filters filterColumns eachVia beside via such both many row mark byte noneYet filterFits
+none-ok flags = tt
+
+none-put : (flags : ℕ) → filters flags .put noneYet ≡ zeros 270
+unfolding filters filterColumns eachVia beside via such both many row mark byte noneYet
+none-put flags = refl
+
+pub filters-none : (flags : ℕ) (m : List ℕ) → length m ≡ 270 → allZero m ≡ true → true ≡ filters flags .valid m
+filters-none flags m h z = zeros-good (filters-lawful flags) noneYet 270 m (none-ok flags) (none-put flags) h z
+
+-- ---- one filter, as code finds it out: what follows its size in mask and pattern is zeros
+
+ends-empty : (n : ℕ) (w : Bool) (a b : List ℕ) → (w && eqb n 0 && allZero (drop n a) && allZero (drop n b)) ≡ (w && eqb n 0 && allZero a && allZero b)
+ends-empty zero w a b = refl
+ends-empty (suc n) w a b = rw (eqb·suc-zero n) (rw (and-false w))
+
+module _ (flags i : ℕ) (m : List ℕ) where
+  abbrev n : ℕ
+  n = getD m (20 + i) 0
+
+  abbrev width : ℕ
+  width = getD m (10 + i) 0
+
+  abbrev mask : List ℕ
+  mask = take 12 (drop (30 + i * 12) m)
+
+  abbrev pattern : List ℕ
+  pattern = take 12 (drop (150 + i * 12) m)
+
+  pub filter-over : 12 < n → false ≡ filterGood flags i m
+  unfolding filterGood filterFits filterAt within
+  filter-over h = sym (go (eqb (getD m i 0) 0))
+    where
+      no : eqb n 0 ≡ false
+      no = ne-eqb n 0 (λ e. omega arith)
+
+      go : (b : Bool) → (leb width 1 && (if b then not (eqb 1 width) && eqb n 0 && allZero mask && allZero pattern
+          else leb (getD m i 0) 2 && takes flags (eqb 1 width) && (leb 1 n && leb n 12) && allZero (drop n mask) && allZero (drop n pattern))) ≡ false
+      go true = rw no (rw (and-false (not (eqb 1 width))) (and-false (leb width 1)))
+      go false = rw (lt-leb n 12 h) (rw (and-false (leb 1 n)) (rw (and-false (leb (getD m i 0) 2 && takes flags (eqb 1 width))) (and-false (leb width 1))))
+
+  pub filter-empty : getD m i 0 ≡ 0 → (leb width 1 && (not (eqb 1 width) && eqb n 0 && allZero (drop n mask) && allZero (drop n pattern))) ≡ filterGood flags i m
+  unfolding filterGood filterFits filterAt
+  filter-empty e =
+      ap (λ (b : Bool). leb width 1 && b) (ends-empty n (not (eqb 1 width)) mask pattern)
+      ∙ ap (λ (b : Bool). leb width 1 && (if b then not (eqb 1 width) && eqb n 0 && allZero mask && allZero pattern
+      else leb (getD m i 0) 2 && takes flags (eqb 1 width) && within 1 12 n && allZero (drop n mask) && allZero (drop n pattern))) (sym (eq-eqb (getD m i 0) 0 e))
+
+  pub filter-set : (getD m i 0 ≡ 0 → ⊥)
+      → (leb width 1 && (leb (getD m i 0) 2 && takes flags (eqb 1 width) && (leb 1 n && leb n 12) && allZero (drop n mask) && allZero (drop n pattern))) ≡ filterGood flags i m
+  unfolding filterGood filterFits filterAt within
+  filter-set f =
+      ap (λ (b : Bool). leb width 1 && (if b then not (eqb 1 width) && eqb n 0 && allZero mask && allZero pattern
+      else leb (getD m i 0) 2 && takes flags (eqb 1 width) && (leb 1 n && leb n 12) && allZero (drop n mask) && allZero (drop n pattern))) (sym (ne-eqb (getD m i 0) 0 f))

@@ -1,0 +1,110 @@
+-- What validity is of ten periodics in columns, periodic by periodic, as code finds it out. Assumes nothing.
+use mathlib.Core.Path.{_≡_, refl, sym, ap, ap₂, _∙_, subst}
+use Prim.Native.Nat.{ℕ, _+_, _*_, _≤_, _<_}
+use native.Mathlib.Omega.{arith}
+use mathlib.Core.Bool.{Bool, true, false, _&&_, _||_, not}
+use mathlib.Core.Option.{none, some}
+use mathlib.Core.List.{List}
+use lib.ListN.{length, getD, take, drop, length-drop}
+use lib.Seq.{getD-take, drop-drop, length-take-le}
+use lib.Dec.{T, eqb, leb, ltb, eqb→eq}
+use Rattle.codec.specs.Plain.{if_then_else_, isByte, within, zeros, allZero, allBelow}
+use Rattle.codec.specs.Word.{word, wordAt}
+use Rattle.codec.specs.Code.{Code, byte, word32, both, via, such, mark, many, vacant, beside, eachVia}
+use Rattle.codec.proofs.Tests.{T-false, and-false}
+use Rattle.codec.proofs.Lists.{all-at, all-take, all-drop}
+use Rattle.codec.proofs.Lawful.{Lawful, word-lawful, mark-lawful}
+use Rattle.codec.proofs.Many.{vacant-lawful}
+use Rattle.machine.specs.Message.{Rec}
+use Rattle.machine.specs.Filter.{noneYet}
+use Rattle.layout.specs.Record.{row, body, rec36, outCell}
+use Rattle.layout.specs.Memory.{periodicParts, periodicBack, timerFits, periodicFits, periodicColumns, periodics}
+use Rattle.layout.proofs.Memory.{out-lawful, out-shows, periodics-lawful}
+use Rattle.validity.specs.Place.{recordAt, periodicAt, periodicGood}
+use Rattle.validity.proofs.Parts.{Bytes, at-rest, zeros-good}
+use Rattle.validity.proofs.Records.{out-none}
+use Rattle.validity.proofs.Columns.{cellAt, cell-there, many-rows, beside-rows, each-rows, below-same, mark-row, mark-row-got, word-row, word-row-got}
+
+record-there : (flags i : ℕ) (m x : List ℕ) → x ≡ drop 90 m → cellAt (vacant (outCell flags)) x i ≡ recordAt i m
+unfolding recordAt vacant outCell such rec36 body row via both many word32 byte
+record-there flags i m x ex = cell-there (vacant (outCell flags)) 36 90 i m x refl ex
+
+module _ (flags : ℕ) (m : List ℕ) (t : Bytes m) where
+  d80 : drop 40 (drop 40 m) ≡ drop 80 m
+  d80 = drop-drop 40 40 m
+
+  d90 : drop 10 (drop 40 (drop 40 m)) ≡ drop 90 m
+  d90 = ap (λ (x : List ℕ). drop 10 x) d80 ∙ drop-drop 10 80 m
+
+  pub periodics-flat : allBelow 10 (λ i. periodicGood flags i m) ≡ periodics flags .valid m
+  unfolding periodics periodicColumns periodicGood periodicAt mark via such byte word32
+  periodics-flat =
+      let r : Lawful (vacant (outCell flags)) = vacant-lawful (out-lawful flags) (out-shows flags) in
+      let rows = beside-rows 10 word-lawful 0 (beside-rows 10 word-lawful 0 (beside-rows 10 mark-lawful false (many-rows r 10 none))) in
+      sym (each-rows 10 periodicParts periodicBack periodicFits rows m
+      ∙ below-same 10 _ _ (λ i l.
+      let first : 0 + i * 4 ≡ i * 4 = omega arith in
+      (λ j.
+      (word-row m t 0 i m refl j
+      && (word-row m t 40 i (drop 40 m) refl j
+      && (mark-row m t 80 i (drop 40 (drop 40 m)) d80 j
+      && vacant (outCell flags) .valid (record-there flags i m (drop 10 (drop 40 (drop 40 m))) d90 j))))
+      && periodicFits (
+        (word-row-got m t 0 i m refl ∙ ap (λ (k : ℕ). wordAt k m) first) j,
+        (
+          word-row-got m t 40 i (drop 40 m) refl j,
+          (
+            mark-row-got m t 80 i (drop 40 (drop 40 m)) d80 j,
+            vacant (outCell flags) .get (record-there flags i m (drop 10 (drop 40 (drop 40 m))) d90 j),
+          ),
+        ),
+      ))))
+
+none-ok : (flags : ℕ) → T (periodics flags .ok noneYet)
+unfolding periodics periodicColumns eachVia beside via such both many vacant word32 mark byte noneYet periodicFits
+none-ok flags = tt
+
+none-put : (flags : ℕ) → periodics flags .put noneYet ≡ zeros 450
+unfolding periodics periodicColumns eachVia beside via such both many vacant outCell rec36 body row word32 word mark byte noneYet
+none-put flags = refl
+
+pub periodics-none : (flags : ℕ) (m : List ℕ) → length m ≡ 450 → allZero m ≡ true → true ≡ periodics flags .valid m
+periodics-none flags m h z = zeros-good (periodics-lawful flags) noneYet 450 m (none-ok flags) (none-put flags) h z
+
+-- ---- one periodic, as code finds it out: it is empty where its record begins with 0
+
+module _ (flags i : ℕ) (m : List ℕ) (h : 90 + i * 36 + 36 ≤ length m) (t : Bytes m) where
+  abbrev interval : ℕ
+  interval = wordAt (i * 4) m
+
+  abbrev phase : ℕ
+  phase = wordAt (40 + i * 4) m
+
+  abbrev pending : ℕ
+  pending = getD m (80 + i) 0
+
+  record-first : getD (recordAt i m) 0 0 ≡ getD m (90 + i * 36) 0
+  unfolding recordAt
+  record-first = getD-take 36 (drop (90 + i * 36) m) 0 0 (omega arith) ∙ at-rest (90 + i * 36) m
+
+  pub periodic-empty : getD m (90 + i * 36) 0 ≡ 0
+      → (leb pending 1 && allZero (recordAt i m) && (eqb interval 0 && eqb phase 0 && not (eqb 1 pending))) ≡ periodicGood flags i m
+  unfolding periodicGood periodicFits periodicAt recordAt vacant
+  periodic-empty e =
+      let r : List ℕ = recordAt i m in
+      let bad : outCell flags .valid r ≡ false = out-none r (length-take-le 36 (drop (90 + i * 36) m) (omega (arith, length-drop (90 + i * 36) m))) (all-take isByte 36 (drop (90 + i * 36) m) (all-drop isByte (90 + i * 36) m t)) flags (record-first ∙ e) in
+      go r (allZero r) (outCell flags .valid r) bad
+    where
+      go : (r : List ℕ) (z v : Bool) → v ≡ false
+          → (leb pending 1 && z && (eqb interval 0 && eqb phase 0 && not (eqb 1 pending)))
+          ≡ (leb pending 1 && (z || v) && timerFits interval phase (eqb 1 pending) (if z then none else some (outCell flags .get r)))
+      go r true v e = refl
+      go r false v e = rw e (rw (and-false (leb pending 1)))
+
+  pub periodic-taken : (getD m (90 + i * 36) 0 ≡ 0 → ⊥)
+      → (leb pending 1 && outCell flags .valid (recordAt i m) && (leb 5 interval && leb interval 65535 && ltb phase (1000 * interval))) ≡ periodicGood flags i m
+  unfolding periodicGood periodicFits periodicAt vacant within
+  periodic-taken f =
+      let r : List ℕ = recordAt i m in
+      let some-byte : allZero r ≡ false = T-false (allZero r) (λ z. f (sym record-first ∙ sym (eqb→eq 0 (getD r 0 0) (all-at (eqb 0) r 0 0 tt z)))) in
+      ap (λ (z : Bool). leb pending 1 && (z || outCell flags .valid r) && timerFits interval phase (eqb 1 pending) (if z then none else some (outCell flags .get r))) (sym some-byte)

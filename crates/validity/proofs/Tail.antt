@@ -1,0 +1,114 @@
+-- Bytes as one number, lowest first: they are zeros from the k-th on exactly where the number is below 256 to the k. Assumes nothing.
+use mathlib.Core.Path.{_≡_, refl, sym, ap, ap₂, _∙_}
+use Prim.Native.Nat.{ℕ, zero, suc, _+_, _*_, _-_, _^_, _≤_, _<_, min}
+use native.Mathlib.Nat.{pow-suc, one-le-pow, not-suc-le-zero, le-of-suc-le-suc}
+use native.Mathlib.Numerals.{add-one}
+use native.Mathlib.Omega.{arith}
+use mathlib.Core.Bool.{Bool, true, false, _&&_}
+use mathlib.Core.List.{List, [], _∷_, _++_}
+use lib.ListN.{length, getD, take, drop, length-drop, drop-of-length-le}
+use lib.Seq.{drop-cons, drop-drop, take-add, drop-append-add, drop-append-le, length-take-le}
+use lib.Dec.{T, eqb, leb, leb·zero, ltb→lt}
+use borrow.Author.Tests.{eqb-true, eqb-false, leb-true, leb-false, le-leb, lt-leb}
+use Rattle.codec.specs.Plain.{all, isByte, allZero}
+use Rattle.codec.specs.Word.{wordAt}
+use Rattle.codec.proofs.Tests.{left, right}
+use Rattle.codec.proofs.Lists.{all-take, all-drop, all-split}
+
+-- the number of a list of bytes
+abbrev value : List ℕ → ℕ
+value [] = 0
+value (x ∷ b) = x + 256 * value b
+
+zero-more : (x v : ℕ) → (eqb 0 x && leb v 0) ≡ leb (x + 256 * v) 0
+zero-more x v = go (eqb 0 x) (leb v 0) refl refl
+  where
+    go : (a b : Bool) → eqb 0 x ≡ a → leb v 0 ≡ b → (a && b) ≡ leb (x + 256 * v) 0
+    go true true p q = sym (le-leb (x + 256 * v) 0 (omega (arith, eqb-true 0 x p, leb-true v 0 q)))
+    go true false p q = sym (lt-leb (x + 256 * v) 0 (omega (arith, leb-false v 0 q)))
+    go false b p q = sym (lt-leb (x + 256 * v) 0 (omega (arith, eqb-false 0 x p)))
+
+zeros-value : (b : List ℕ) → allZero b ≡ leb (value b) 0
+zeros-value [] = refl
+zeros-value (x ∷ b) = ap (λ (z : Bool). eqb 0 x && z) (zeros-value b) ∙ zero-more x (value b)
+
+digit-more : (x v k : ℕ) → x < 256 → leb v (256 ^ k - 1) ≡ leb (x + 256 * v) (256 ^ suc k - 1)
+digit-more x v k h = go (leb v (256 ^ k - 1)) refl
+  where
+    go : (b : Bool) → leb v (256 ^ k - 1) ≡ b → b ≡ leb (x + 256 * v) (256 ^ suc k - 1)
+    go true p = sym (le-leb (x + 256 * v) (256 ^ suc k - 1) (omega (arith, leb-true v (256 ^ k - 1) p, pow-suc 256 k, one-le-pow k 256 (omega arith))))
+    go false p = sym (lt-leb (x + 256 * v) (256 ^ suc k - 1) (omega (arith, leb-false v (256 ^ k - 1) p, pow-suc 256 k, one-le-pow k 256 (omega arith))))
+
+tail-value : (k : ℕ) (b : List ℕ) → T (all isByte b) → leb (value b) (256 ^ k - 1) ≡ allZero (drop k b)
+tail-value zero b t = sym (zeros-value b)
+tail-value (suc k) [] t = leb·zero (256 ^ suc k - 1)
+tail-value (suc k) (x ∷ b) t =
+    sym (digit-more x (value b) k (ltb→lt x 256 (left (isByte x) (all isByte b) t))) ∙ tail-value k b (right (isByte x) (all isByte b) t)
+
+-- ---- the number of four and of eight bytes at a place
+
+front : (at next n : ℕ) (m : List ℕ) → at < length m → next ≡ at + 1 → value (take (suc n) (drop at m)) ≡ getD m at 0 + 256 * value (take n (drop next m))
+front at next n m h e =
+    ap (λ (x : List ℕ). value (take (suc n) x)) (drop-cons m at 0 h) ∙ ap (λ (j : ℕ). getD m at 0 + 256 * value (take n (drop j m))) (sym (e ∙ add-one at))
+
+four-value : (n at : ℕ) (m : List ℕ) → at + 4 ≤ length m → value (take (suc (suc (suc (suc n)))) (drop at m)) ≡ wordAt at m + 0x1_0000_0000 * value (take n (drop (at + 4) m))
+unfolding wordAt
+four-value n at m h =
+    omega
+    (arith, front at (at + 1) (suc (suc (suc n))) m (omega arith) refl, front (at + 1) (at + 2) (suc (suc n)) m (omega arith) (omega arith), front (at + 2) (at + 3) (suc n) m (omega arith) (omega arith), front (at + 3) (at + 4) n m (omega arith) (omega arith))
+
+module _ (m : List ℕ) (t : T (all isByte m)) (at : ℕ) where
+  part-bytes : (k n : ℕ) → T (all isByte (take n (drop k m)))
+  part-bytes k n = all-take isByte n (drop k m) (all-drop isByte k m t)
+
+  pub four-end : (k : ℕ) → at + 4 ≤ length m → leb (wordAt at m) (256 ^ k - 1) ≡ allZero (drop k (take 4 (drop at m)))
+  four-end k h =
+      let v : wordAt at m ≡ value (take 4 (drop at m)) = omega (arith, four-value 0 at m h) in
+      ap (λ (x : ℕ). leb x (256 ^ k - 1)) v ∙ tail-value k (take 4 (drop at m)) (part-bytes at 4)
+
+  pub eight-end : (k : ℕ) → at + 8 ≤ length m → leb (wordAt at m + 0x1_0000_0000 * wordAt (at + 4) m) (256 ^ k - 1) ≡ allZero (drop k (take 8 (drop at m)))
+  eight-end k h =
+      let v : wordAt at m + 0x1_0000_0000 * wordAt (at + 4) m ≡ value (take 8 (drop at m)) = omega (arith, four-value 4 at m (omega arith), four-value 0 (at + 4) m (omega arith)) in
+      ap (λ (x : ℕ). leb x (256 ^ k - 1)) v ∙ tail-value k (take 8 (drop at m)) (part-bytes at 8)
+
+-- ---- twelve bytes as eight and four
+
+split-end : (n : ℕ) (x y : List ℕ) → length x ≡ 8 → (allZero (drop (min n 8) x) && allZero (drop (n - min n 8) y)) ≡ allZero (drop n (x ++ y))
+split-end n x y h = go (leb n 8) refl
+  where
+    go : (b : Bool) → leb n 8 ≡ b → (allZero (drop (min n 8) x) && allZero (drop (n - min n 8) y)) ≡ allZero (drop n (x ++ y))
+    go true p =
+        let l : n ≤ 8 = leb-true n 8 p in
+        let e : min n 8 ≡ n = omega arith in
+        let z : n - min n 8 ≡ 0 = omega arith in
+        ap₂ (λ (i j : ℕ). allZero (drop i x) && allZero (drop j y)) e z
+        ∙ sym (all-split (eqb 0) (drop n x) y) ∙ ap (λ (r : List ℕ). allZero r) (sym (drop-append-le n x y (omega arith)))
+    go false p =
+        let l : 8 < n = leb-false n 8 p in
+        let e : min n 8 ≡ 8 = omega arith in
+        let s : n ≡ length x + (n - min n 8) = omega arith in
+        ap (λ (r : List ℕ). allZero r && allZero (drop (n - min n 8) y)) (drop-of-length-le x {i = min n 8} (omega arith))
+        ∙ ap (λ (r : List ℕ). allZero r) (sym (ap (λ (i : ℕ). drop i (x ++ y)) s ∙ drop-append-add x y (n - min n 8)))
+
+pub twelve-end : (n at : ℕ) (m : List ℕ) → at + 12 ≤ length m
+    → (allZero (drop (min n 8) (take 8 (drop at m))) && allZero (drop (n - min n 8) (take 4 (drop (at + 8) m)))) ≡ allZero (drop n (take 12 (drop at m)))
+twelve-end n at m h =
+    ap (λ (r : List ℕ). allZero (drop (min n 8) (take 8 (drop at m))) && allZero (drop (n - min n 8) (take 4 r))) (sym (drop-drop 8 at m))
+    ∙ split-end n (take 8 (drop at m)) (take 4 (drop 8 (drop at m))) (length-take-le 8 (drop at m) (omega (arith, length-drop at m)))
+    ∙ ap (λ (r : List ℕ). allZero (drop n r)) (sym (take-add 8 4 (drop at m)))
+
+-- ---- the table of the largest numbers of k bytes, as its rule gives it
+
+abbrev largests : ℕ → ℕ → List ℕ
+largests i zero = []
+largests i (suc n) = (256 ^ i - 1) ∷ largests (suc i) n
+
+largests-at : (i n k : ℕ) → k < n → getD (largests i n) k 0 ≡ 256 ^ (i + k) - 1
+largests-at i zero k h = absurd (not-suc-le-zero h)
+largests-at i (suc n) zero h = ap (λ (j : ℕ). 256 ^ j - 1) (omega arith)
+largests-at i (suc n) (suc k) h =
+    let e : suc i + k ≡ i + suc k = omega arith in
+    largests-at (suc i) n k (le-of-suc-le-suc h) ∙ ap (λ (j : ℕ). 256 ^ j - 1) e
+
+pub largest-is : (n k : ℕ) → k < n → getD (largests 0 n) k 0 ≡ 256 ^ k - 1
+largest-is n k h = largests-at 0 n k h ∙ ap (λ (j : ℕ). 256 ^ j - 1) (omega arith)

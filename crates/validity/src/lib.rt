@@ -1,0 +1,279 @@
+// Is this a device memory? Each function decides what one part of the layout calls valid, and the cost grows with what is held.
+use octets::all_zero;
+use octets::id_at;
+use octets::id_limit;
+use octets::is_flags;
+use octets::is_rate;
+use octets::takes_width;
+use octets::word_at;
+ghost use mathlib.Core.Path.{_≡_};
+ghost use mathlib.Core.Bool.{true, false};
+ghost use Prim.Native.Nat.{_+_, _*_, _-_, _^_, _<_, _≤_, min};
+ghost use lib.ListN.{length, take, drop};
+ghost use Rattle.codec.specs.Plain.{allZero};
+ghost use Rattle.codec.specs.Code.{upTo};
+ghost use Rattle.layout.specs.Record.{rec36, widthFits};
+ghost use Rattle.layout.specs.Record.{outgoing as isOutgoing, incoming as isIncoming};
+ghost use Rattle.layout.specs.Memory.{config, sendingPart, receivingPart, openPart, region};
+ghost use Rattle.layout.specs.Memory.{valid as isValid};
+ghost use Rattle.validity.specs.Place.{fieldsOf, filterGood, periodicGood, placesSize, placesValid, placeGood};
+ghost use Rattle.validity.specs.Place.{cell as cellOf};
+
+// The largest number of k bytes, for each k up to eight.
+const LARGEST: [u64; 9] = [
+    0,
+    0xFF,
+    0xFFFF,
+    0xFF_FFFF,
+    0xFFFF_FFFF,
+    0xFF_FFFF_FFFF,
+    0xFFFF_FFFF_FFFF,
+    0xFF_FFFF_FFFF_FFFF,
+    0xFFFF_FFFF_FFFF_FFFF,
+];
+
+fn largest(k: usize) -> u64
+    requires { ⌜ k ≤ 8 ⌝ }
+    ensures { λ r. ⌜ r ≡ 256 ^ k - 1 ⌝ }
+{
+    LARGEST[k]
+}
+
+// The smaller of two numbers.
+fn least(a: usize, b: usize) -> usize
+    ensures { λ r. ⌜ r ≡ min a b ⌝ }
+{
+    if a < b { a } else { b }
+}
+
+// Are eight bytes zeros from the k-th on? As one number, lowest byte first, they are then below 256 to the k.
+fn eight_end(s: &[u8], at: usize, k: usize) -> bool
+    requires { ⌜ (at + 8 ≤ length (now s)) × (k ≤ 8) ⌝ }
+    ensures { λ r. ⌜ r ≡ allZero (drop k (take 8 (drop at (now (s .entry))))) ⌝ }
+{
+    word_at(s, at) as u64 + 0x1_0000_0000 * (word_at(s, at + 4) as u64) <= largest(k)
+}
+
+// Are twelve bytes zeros from the n-th on?
+fn twelve_end(s: &[u8], at: usize, n: usize) -> bool
+    requires { ⌜ (at + 12 ≤ length (now s)) × (n ≤ 12) ⌝ }
+    ensures { λ r. ⌜ r ≡ allZero (drop n (take 12 (drop at (now (s .entry))))) ⌝ }
+{
+    let low = least(n, 8);
+    eight_end(s, at, low) & (word_at(s, at + 8) as u64 <= largest(n - low))
+}
+
+// The 36 bytes of a record, whatever it waits for: protocol, size, extra index, zeros after the data.
+fn plain_record(s: &[u8]) -> bool
+    requires { ⌜ length (now s) ≡ 36 ⌝ }
+    ensures { λ r. ⌜ r ≡ rec36 .valid (now (s .entry)) ⌝ }
+{
+    let size = word_at(s, 16);
+    if size < 4 {
+        return false;
+    }
+    if size > 12 {
+        return false;
+    }
+    let data = size as usize - 4;
+    (word_at(s, 20) == size) & eight_end(s, 28, data) & (word_at(s, 0) == 5)
+}
+
+// Is a record's identifier in the range of its width, and does the connection take that width?
+fn width_fits(s: &[u8], flags: u32, wide: bool) -> bool
+    requires { ⌜ length (now s) ≡ 36 ⌝ }
+    ensures { λ r. ⌜ r ≡ widthFits flags wide (drop 24 (now (s .entry))) ⌝ }
+{
+    (id_at(s, 24) <= id_limit(wide)) & takes_width(flags, wide)
+}
+
+// The fields of a record held for sending, on a connection of these flags.
+fn outgoing(s: &[u8], flags: u32) -> bool
+    requires { ⌜ length (now s) ≡ 36 ⌝ }
+    ensures { λ r. ⌜ r ≡ isOutgoing flags (fieldsOf (now (s .entry))) ⌝ }
+{
+    let tx = word_at(s, 8);
+    (word_at(s, 4) == 0)
+        & ((tx == 0) | (tx == 0x100))
+        & (word_at(s, 12) == 0)
+        & width_fits(s, flags, tx / 0x100 % 2 == 1)
+}
+
+// The fields of a record held for reading.
+fn incoming(s: &[u8], flags: u32) -> bool
+    requires { ⌜ length (now s) ≡ 36 ⌝ }
+    ensures { λ r. ⌜ r ≡ isIncoming flags (fieldsOf (now (s .entry))) ⌝ }
+{
+    let rx = word_at(s, 4);
+    ((rx == 0) | ((rx == 1) | ((rx == 0x100) | (rx == 0x101))))
+        & (word_at(s, 8) == 0)
+        & width_fits(s, flags, rx / 0x100 % 2 == 1)
+}
+
+// A record held for sending, or for reading.
+fn cell(s: &[u8], flags: u32, sending: bool) -> bool
+    requires { ⌜ length (now s) ≡ 36 ⌝ }
+    ensures { λ r. ⌜ r ≡ cellOf sending flags .valid (now (s .entry)) ⌝ }
+{
+    if sending {
+        return plain_record(s) & outgoing(s, flags);
+    }
+    plain_record(s) & incoming(s, flags)
+}
+
+// A store of so many records, for sending or for reading: the held ones are records, zeros behind them.
+fn store(s: &[u8], capacity: usize, flags: u32, sending: bool) -> bool
+    requires { ⌜ length (now s) ≡ 1 + capacity * 36 ⌝ }
+    ensures { λ r. ⌜ r ≡ upTo capacity (cellOf sending flags) .valid (now (s .entry)) ⌝ }
+{
+    let n = s[0] as usize;
+    if n > capacity {
+        return false;
+    }
+    let mut good = true;
+    let mut i = 0;
+    while i < n {
+        let a = 1 + i * 36;
+        let e = a + 36;
+        good = good & cell(&s[a..e], flags, sending);
+        i += 1;
+    }
+    let z = 1 + n * 36;
+    good & all_zero(&s[z..])
+}
+
+// Filter i of ten: type, width mark, size, and zeros after the size in mask and pattern; or nothing at all.
+fn filter(s: &[u8], i: usize, flags: u32) -> bool
+    requires { ⌜ (length (now s) ≡ 270) × (i < 10) ⌝ }
+    ensures { λ r. ⌜ r ≡ filterGood flags i (now (s .entry)) ⌝ }
+{
+    let width = s[10 + i];
+    let n = s[20 + i] as usize;
+    if n > 12 {
+        return false;
+    }
+    let mask = twelve_end(s, 30 + i * 12, n);
+    let pattern = twelve_end(s, 150 + i * 12, n);
+    if s[i] == 0 {
+        return (width <= 1) & (!(1 == width) & (n == 0) & mask & pattern);
+    }
+    (width <= 1)
+        & ((s[i] <= 2) & takes_width(flags, 1 == width) & ((1 <= n) & (n <= 12)) & mask & pattern)
+}
+
+// Periodic i of ten: record, interval, time since the last due time, pending mark; or nothing at all.
+fn periodic(s: &[u8], i: usize, flags: u32) -> bool
+    requires { ⌜ (length (now s) ≡ 450) × (i < 10) ⌝ }
+    ensures { λ r. ⌜ r ≡ periodicGood flags i (now (s .entry)) ⌝ }
+{
+    let interval = word_at(s, i * 4) as u64;
+    let phase = word_at(s, 40 + i * 4) as u64;
+    let pending = s[80 + i];
+    let a = 90 + i * 36;
+    let e = a + 36;
+    if s[a] == 0 {
+        return (pending <= 1)
+            & all_zero(&s[a..e])
+            & ((interval == 0) & (phase == 0) & !(1 == pending));
+    }
+    (pending <= 1)
+        & cell(&s[a..e], flags, true)
+        & ((5 <= interval) & (interval <= 65535) & (phase < 1000 * interval))
+}
+
+// Place i of ten, of periodics or of filters.
+fn place(s: &[u8], i: usize, flags: u32, timed: bool) -> bool
+    requires { ⌜ (length (now s) ≡ placesSize timed) × (i < 10) ⌝ }
+    ensures { λ r. ⌜ r ≡ placeGood timed flags i (now (s .entry)) ⌝ }
+{
+    if timed {
+        return periodic(s, i, flags);
+    }
+    filter(s, i, flags)
+}
+
+// Ten periodics, or ten filters. Where there is none, they are zeros.
+fn places(s: &[u8], flags: u32, timed: bool) -> bool
+    requires { ⌜ length (now s) ≡ placesSize timed ⌝ }
+    ensures { λ r. ⌜ r ≡ placesValid timed flags (now (s .entry)) ⌝ }
+{
+    if all_zero(s) {
+        return true;
+    }
+    let mut good = true;
+    let mut i = 0;
+    while i < 10 {
+        good = good & place(s, i, flags, timed);
+        i += 1;
+    }
+    good
+}
+
+// Flags, rate and loopback mark.
+fn configuration(s: &[u8]) -> bool
+    requires { ⌜ length (now s) ≡ 9 ⌝ }
+    ensures { λ r. ⌜ r ≡ config .valid (now (s .entry)) ⌝ }
+{
+    (s[8] <= 1) & (is_flags(word_at(s, 0)) & is_rate(word_at(s, 4)))
+}
+
+// Periodics, at most 16 written records, at most one in flight.
+fn sending(s: &[u8], flags: u32) -> bool
+    requires { ⌜ length (now s) ≡ 1064 ⌝ }
+    ensures { λ r. ⌜ r ≡ sendingPart flags .valid (now (s .entry)) ⌝ }
+{
+    places(&s[0..450], flags, true)
+        & (store(&s[450..1027], 16, flags, true) & store(&s[1027..1064], 1, flags, true))
+}
+
+// At most 32 records to read, and the lost mark.
+fn receiving(s: &[u8], flags: u32) -> bool
+    requires { ⌜ length (now s) ≡ 1154 ⌝ }
+    ensures { λ r. ⌜ r ≡ receivingPart flags .valid (now (s .entry)) ⌝ }
+{
+    store(&s[0..1153], 32, flags, false) & (s[1153] <= 1)
+}
+
+// What an open channel holds: every width there is one that its flags take.
+fn opened(s: &[u8]) -> bool
+    requires { ⌜ length (now s) ≡ 2497 ⌝ }
+    ensures { λ r. ⌜ r ≡ openPart .valid (now (s .entry)) ⌝ }
+{
+    let flags = word_at(s, 0);
+    configuration(&s[0..9])
+        & (places(&s[9..279], flags, false)
+            & (sending(&s[279..1343], flags) & receiving(&s[1343..2497], flags)))
+}
+
+// A channel's region: closed and zeros, or open.
+pub fn region_valid(s: &[u8]) -> bool
+    requires { ⌜ length (now s) ≡ 2498 ⌝ }
+    ensures { λ r. ⌜ r ≡ region .valid (now (s .entry)) ⌝ }
+{
+    let k = s[0];
+    if k == 0 {
+        return all_zero(&s[1..2498]);
+    }
+    if k == 1 {
+        return opened(&s[1..2498]);
+    }
+    false
+}
+
+// Is this a device memory?
+pub fn valid(mem: &[u8]) -> bool
+    ensures { λ r. ⌜ r ≡ isValid (now (mem .entry)) ⌝ }
+{
+    if mem.len() != 9996 {
+        return false;
+    }
+    let mut good = true;
+    let mut i = 0;
+    while i < 4 {
+        let a = 4 + i * 2498;
+        let e = a + 2498;
+        good = good & region_valid(&mem[a..e]);
+        i += 1;
+    }
+    good
+}
