@@ -1,15 +1,16 @@
--- Bytes as one number, lowest first: they are zeros from the k-th on exactly where the number is below 256 to the k. Assumes nothing.
+-- Bytes as one number, lowest first: they are zeros from the k-th on exactly where the number fits k bytes. Assumes nothing.
 use mathlib.Core.Path.{_≡_, refl, sym, ap, ap₂, _∙_}
-use Prim.Native.Nat.{ℕ, zero, suc, _+_, _*_, _-_, _^_, _≤_, _<_, min}
-use native.Mathlib.Nat.{pow-suc, one-le-pow, not-suc-le-zero, le-of-suc-le-suc}
+use Prim.Native.Nat.{ℕ, zero, suc, _+_, _*_, _-_, _/_, _^_, _≤_, _<_, min}
+use native.Mathlib.Nat.{div-one, zero-div}
 use native.Mathlib.Numerals.{add-one}
 use native.Mathlib.Omega.{arith}
 use mathlib.Core.Bool.{Bool, true, false, _&&_}
 use mathlib.Core.List.{List, [], _∷_, _++_}
 use lib.ListN.{length, getD, take, drop, length-drop, drop-of-length-le}
 use lib.Seq.{drop-cons, drop-drop, take-add, drop-append-add, drop-append-le, length-take-le}
-use lib.Dec.{T, eqb, leb, leb·zero, ltb→lt}
-use borrow.Author.Tests.{eqb-true, eqb-false, leb-true, leb-false, le-leb, lt-leb}
+use lib.Dec.{T, eqb, leb, ltb→lt}
+use lib.Pow.{shr-shr}
+use borrow.Author.Tests.{eq-eqb, ne-eqb, eqb-true, eqb-false, leb-true, leb-false}
 use Rattle.codec.specs.Plain.{all, isByte, allZero}
 use Rattle.codec.specs.Word.{wordAt}
 use Rattle.codec.proofs.Tests.{left, right}
@@ -20,30 +21,33 @@ abbrev value : List ℕ → ℕ
 value [] = 0
 value (x ∷ b) = x + 256 * value b
 
-zero-more : (x v : ℕ) → (eqb 0 x && leb v 0) ≡ leb (x + 256 * v) 0
-zero-more x v = go (eqb 0 x) (leb v 0) refl refl
+zero-more : (x v : ℕ) → eqb (x + 256 * v) 0 ≡ (eqb 0 x && eqb v 0)
+zero-more x v = go (eqb 0 x) (eqb v 0) refl refl
   where
-    go : (a b : Bool) → eqb 0 x ≡ a → leb v 0 ≡ b → (a && b) ≡ leb (x + 256 * v) 0
-    go true true p q = sym (le-leb (x + 256 * v) 0 (omega (arith, eqb-true 0 x p, leb-true v 0 q)))
-    go true false p q = sym (lt-leb (x + 256 * v) 0 (omega (arith, leb-false v 0 q)))
-    go false b p q = sym (lt-leb (x + 256 * v) 0 (omega (arith, eqb-false 0 x p)))
+    go : (a b : Bool) → eqb 0 x ≡ a → eqb v 0 ≡ b → eqb (x + 256 * v) 0 ≡ (a && b)
+    go true true p q = eq-eqb (x + 256 * v) 0 (omega (arith, eqb-true 0 x p, eqb-true v 0 q))
+    go true false p q = ne-eqb (x + 256 * v) 0 (λ e. eqb-false v 0 q (omega arith))
+    go false b p q = ne-eqb (x + 256 * v) 0 (λ e. eqb-false 0 x p (omega arith))
 
-zeros-value : (b : List ℕ) → allZero b ≡ leb (value b) 0
+zeros-value : (b : List ℕ) → eqb (value b) 0 ≡ allZero b
 zeros-value [] = refl
-zeros-value (x ∷ b) = ap (λ (z : Bool). eqb 0 x && z) (zeros-value b) ∙ zero-more x (value b)
+zeros-value (x ∷ b) = zero-more x (value b) ∙ ap (λ (z : Bool). eqb 0 x && z) (zeros-value b)
 
-digit-more : (x v k : ℕ) → x < 256 → leb v (256 ^ k - 1) ≡ leb (x + 256 * v) (256 ^ suc k - 1)
-digit-more x v k h = go (leb v (256 ^ k - 1)) refl
-  where
-    go : (b : Bool) → leb v (256 ^ k - 1) ≡ b → b ≡ leb (x + 256 * v) (256 ^ suc k - 1)
-    go true p = sym (le-leb (x + 256 * v) (256 ^ suc k - 1) (omega (arith, leb-true v (256 ^ k - 1) p, pow-suc 256 k, one-le-pow k 256 (omega arith))))
-    go false p = sym (lt-leb (x + 256 * v) (256 ^ suc k - 1) (omega (arith, leb-false v (256 ^ k - 1) p, pow-suc 256 k, one-le-pow k 256 (omega arith))))
+digit-less : (x v k : ℕ) → x < 256 → (x + 256 * v) / 2 ^ (8 * suc k) ≡ v / 2 ^ (8 * k)
+digit-less x v k h =
+    let e : 8 * suc k ≡ 8 + 8 * k = omega arith in
+    let d : (x + 256 * v) / 256 ≡ v = omega arith in
+    ap (λ (n : ℕ). (x + 256 * v) / 2 ^ n) e ∙ sym (shr-shr (x + 256 * v) 8 (8 * k)) ∙ ap (λ (n : ℕ). n / 2 ^ (8 * k)) d
 
-tail-value : (k : ℕ) (b : List ℕ) → T (all isByte b) → leb (value b) (256 ^ k - 1) ≡ allZero (drop k b)
-tail-value zero b t = sym (zeros-value b)
-tail-value (suc k) [] t = leb·zero (256 ^ suc k - 1)
+tail-value : (k : ℕ) (b : List ℕ) → T (all isByte b) → eqb (value b / 2 ^ (8 * k)) 0 ≡ allZero (drop k b)
+tail-value zero b t = ap (λ (n : ℕ). eqb n 0) (div-one (value b)) ∙ zeros-value b
+tail-value (suc k) [] t = ap (λ (n : ℕ). eqb n 0) (zero-div (2 ^ (8 * suc k)))
 tail-value (suc k) (x ∷ b) t =
-    sym (digit-more x (value b) k (ltb→lt x 256 (left (isByte x) (all isByte b) t))) ∙ tail-value k b (right (isByte x) (all isByte b) t)
+    ap (λ (n : ℕ). eqb n 0) (digit-less x (value b) k (ltb→lt x 256 (left (isByte x) (all isByte b) t))) ∙ tail-value k b (right (isByte x) (all isByte b) t)
+
+-- as code finds it out: two shifts of half the bits
+pub shifted : (x k : ℕ) → eqb (x / 2 ^ (4 * k) / 2 ^ (4 * k)) 0 ≡ eqb (x / 2 ^ (8 * k)) 0
+shifted x k = let e : 4 * k + 4 * k ≡ 8 * k = omega arith in ap (λ (n : ℕ). eqb n 0) (shr-shr x (4 * k) (4 * k) ∙ ap (λ (n : ℕ). x / 2 ^ n) e)
 
 -- ---- the number of four and of eight bytes at a place
 
@@ -61,15 +65,15 @@ module _ (m : List ℕ) (t : T (all isByte m)) (at : ℕ) where
   part-bytes : (k n : ℕ) → T (all isByte (take n (drop k m)))
   part-bytes k n = all-take isByte n (drop k m) (all-drop isByte k m t)
 
-  pub four-end : (k : ℕ) → at + 4 ≤ length m → leb (wordAt at m) (256 ^ k - 1) ≡ allZero (drop k (take 4 (drop at m)))
+  pub four-end : (k : ℕ) → at + 4 ≤ length m → eqb (wordAt at m / 2 ^ (8 * k)) 0 ≡ allZero (drop k (take 4 (drop at m)))
   four-end k h =
       let v : wordAt at m ≡ value (take 4 (drop at m)) = omega (arith, four-value 0 at m h) in
-      ap (λ (x : ℕ). leb x (256 ^ k - 1)) v ∙ tail-value k (take 4 (drop at m)) (part-bytes at 4)
+      ap (λ (x : ℕ). eqb (x / 2 ^ (8 * k)) 0) v ∙ tail-value k (take 4 (drop at m)) (part-bytes at 4)
 
-  pub eight-end : (k : ℕ) → at + 8 ≤ length m → leb (wordAt at m + 0x1_0000_0000 * wordAt (at + 4) m) (256 ^ k - 1) ≡ allZero (drop k (take 8 (drop at m)))
+  pub eight-end : (k : ℕ) → at + 8 ≤ length m → eqb ((wordAt at m + 0x1_0000_0000 * wordAt (at + 4) m) / 2 ^ (8 * k)) 0 ≡ allZero (drop k (take 8 (drop at m)))
   eight-end k h =
       let v : wordAt at m + 0x1_0000_0000 * wordAt (at + 4) m ≡ value (take 8 (drop at m)) = omega (arith, four-value 4 at m (omega arith), four-value 0 (at + 4) m (omega arith)) in
-      ap (λ (x : ℕ). leb x (256 ^ k - 1)) v ∙ tail-value k (take 8 (drop at m)) (part-bytes at 8)
+      ap (λ (x : ℕ). eqb (x / 2 ^ (8 * k)) 0) v ∙ tail-value k (take 8 (drop at m)) (part-bytes at 8)
 
 -- ---- twelve bytes as eight and four
 
@@ -96,19 +100,3 @@ twelve-end n at m h =
     ap (λ (r : List ℕ). allZero (drop (min n 8) (take 8 (drop at m))) && allZero (drop (n - min n 8) (take 4 r))) (sym (drop-drop 8 at m))
     ∙ split-end n (take 8 (drop at m)) (take 4 (drop 8 (drop at m))) (length-take-le 8 (drop at m) (omega (arith, length-drop at m)))
     ∙ ap (λ (r : List ℕ). allZero (drop n r)) (sym (take-add 8 4 (drop at m)))
-
--- ---- the table of the largest numbers of k bytes, as its rule gives it
-
-abbrev largests : ℕ → ℕ → List ℕ
-largests i zero = []
-largests i (suc n) = (256 ^ i - 1) ∷ largests (suc i) n
-
-largests-at : (i n k : ℕ) → k < n → getD (largests i n) k 0 ≡ 256 ^ (i + k) - 1
-largests-at i zero k h = absurd (not-suc-le-zero h)
-largests-at i (suc n) zero h = ap (λ (j : ℕ). 256 ^ j - 1) (omega arith)
-largests-at i (suc n) (suc k) h =
-    let e : suc i + k ≡ i + suc k = omega arith in
-    largests-at (suc i) n k (le-of-suc-le-suc h) ∙ ap (λ (j : ℕ). 256 ^ j - 1) e
-
-pub largest-is : (n k : ℕ) → k < n → getD (largests 0 n) k 0 ≡ 256 ^ k - 1
-largest-is n k h = largests-at 0 n k h ∙ ap (λ (j : ℕ). 256 ^ j - 1) (omega arith)

@@ -8,7 +8,8 @@ use octets::takes_width;
 use octets::word_at;
 ghost use mathlib.Core.Path.{_≡_};
 ghost use mathlib.Core.Bool.{true, false};
-ghost use Prim.Native.Nat.{_+_, _*_, _-_, _^_, _<_, _≤_, min};
+ghost use Prim.Native.Nat.{_+_, _*_, _/_, _^_, _<_, _≤_, min};
+ghost use lib.Dec.{eqb};
 ghost use lib.ListN.{length, take, drop};
 ghost use Rattle.codec.specs.Plain.{allZero};
 ghost use Rattle.codec.specs.Code.{upTo};
@@ -19,24 +20,13 @@ ghost use Rattle.layout.specs.Memory.{valid as isValid};
 ghost use Rattle.validity.specs.Place.{fieldsOf, filterGood, periodicGood, placesSize, placesValid, placeGood};
 ghost use Rattle.validity.specs.Place.{cell as cellOf};
 
-// The largest number of k bytes, for each k up to eight.
-const LARGEST: [u64; 9] = [
-    0,
-    0xFF,
-    0xFFFF,
-    0xFF_FFFF,
-    0xFFFF_FFFF,
-    0xFF_FFFF_FFFF,
-    0xFFFF_FFFF_FFFF,
-    0xFF_FFFF_FFFF_FFFF,
-    0xFFFF_FFFF_FFFF_FFFF,
-];
-
-fn largest(k: usize) -> u64
+// Does a number fit k bytes?
+fn fits_bytes(x: u64, k: usize) -> bool
     requires { ⌜ k ≤ 8 ⌝ }
-    ensures { λ r. ⌜ r ≡ 256 ^ k - 1 ⌝ }
+    ensures { λ r. ⌜ r ≡ eqb (x / 2 ^ (8 * k)) 0 ⌝ }
 {
-    LARGEST[k]
+    let half = 4 * k;
+    (x >> half) >> half == 0
 }
 
 // The smaller of two numbers.
@@ -46,12 +36,15 @@ fn least(a: usize, b: usize) -> usize
     if a < b { a } else { b }
 }
 
-// Are eight bytes zeros from the k-th on? As one number, lowest byte first, they are then below 256 to the k.
+// Are eight bytes zeros from the k-th on? As one number, lowest byte first, they then fit k bytes.
 fn eight_end(s: &[u8], at: usize, k: usize) -> bool
     requires { ⌜ (at + 8 ≤ length (now s)) × (k ≤ 8) ⌝ }
     ensures { λ r. ⌜ r ≡ allZero (drop k (take 8 (drop at (now (s .entry))))) ⌝ }
 {
-    word_at(s, at) as u64 + 0x1_0000_0000 * (word_at(s, at + 4) as u64) <= largest(k)
+    fits_bytes(
+        word_at(s, at) as u64 + 0x1_0000_0000 * (word_at(s, at + 4) as u64),
+        k,
+    )
 }
 
 // Are twelve bytes zeros from the n-th on?
@@ -60,7 +53,7 @@ fn twelve_end(s: &[u8], at: usize, n: usize) -> bool
     ensures { λ r. ⌜ r ≡ allZero (drop n (take 12 (drop at (now (s .entry))))) ⌝ }
 {
     let low = least(n, 8);
-    eight_end(s, at, low) & (word_at(s, at + 8) as u64 <= largest(n - low))
+    eight_end(s, at, low) & fits_bytes(word_at(s, at + 8) as u64, n - low)
 }
 
 // The 36 bytes of a record, whatever it waits for: protocol, size, extra index, zeros after the data.

@@ -1,7 +1,7 @@
 -- `validity::eight_end` meets its contract. Assumes nothing.
 use Rattle.validity.proofs.Tail.{eight-end}
-use lib.Dec.{leb}
-use Prim.Native.Nat.{_+_, _*_}
+use lib.Dec.{eqb}
+use Prim.Native.Nat.{_+_, _*_, _/_, _^_}
 use mathlib.Core.Path.{_∙_}
 use borrow.Author.Needs.{needs}
 use Rattle.validity.proofs.eight_end.Statement.{statement}
@@ -11,7 +11,8 @@ returns : tie.Need-returns
 returns c = let start = c .before .before .before .before in
     let a = c .before .before .word-at .ensures in
     let b = c .before .word-at2 .ensures in
-    (λ j. leb (a .0 j + 0x1_0000_0000 * b .0 j) (c .largest .ensures j)) ∙ eight-end (start .args .s .now) (a .1) (start .args .at) (start .args .k) (start .pre .0)
+    c .fits-bytes .ensures ∙ (λ j. eqb ((a .0 j + 0x1_0000_0000 * b .0 j) / 2 ^ (8 * start .args .k)) 0)
+    ∙ eight-end (start .args .s .now) (a .1) (start .args .at) (start .args .k) (start .pre .0)
 
 pub eight-end-spec : {M : Type 1} → statement M
 eight-end-spec =

@@ -1,11 +1,10 @@
 -- `validity::twelve_end` meets its contract: eight bytes, then four. Assumes nothing.
 use Rattle.validity.proofs.Tail.{four-end, twelve-end}
-use Rattle.codec.specs.Word.{wordAt}
 use Rattle.codec.specs.Plain.{allZero}
 use native.Mathlib.Omega.{arith}
 use lib.ListN.{take, drop}
-use lib.Dec.{leb}
-use Prim.Native.Nat.{ℕ, _+_, _-_, _^_, min}
+use lib.Dec.{eqb}
+use Prim.Native.Nat.{ℕ, _+_, _*_, _-_, _/_, _^_, min}
 use mathlib.Core.List.{List}
 use mathlib.Core.Bool.{Bool, _&&_}
 use mathlib.Core.Path.{_≡_, ap, ap₂, _∙_}
@@ -21,7 +20,7 @@ returns c = let start = c .before .before .before .before .before in
     let low = c .before .before .before .least .ensures in
     let w = c .before .word-at .ensures in
     let first = c .before .before .eight-end .ensures ∙ ap (λ (k : ℕ). allZero (drop k (take 8 (drop at s)))) low in
-    let second = (λ j. leb (w .0 j) ((c .largest .ensures ∙ ap (λ (k : ℕ). 256 ^ (n - k) - 1) low) j)) ∙ four-end s (w .1) (at + 8) (n - min n 8) (omega arith) in
+    let second = c .fits-bytes .ensures ∙ (λ j. eqb (w .0 j / 2 ^ (8 * (n - low j))) 0) ∙ four-end s (w .1) (at + 8) (n - min n 8) (omega arith) in
     ap₂ (λ (x y : Bool). x && y) first second ∙ twelve-end n at s (start .pre .0)
 
 pub twelve-end-spec : {M : Type 1} → statement M
