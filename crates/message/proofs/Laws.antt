@@ -1,0 +1,228 @@
+-- The checks of a message as code makes them, and the 36 bytes of a record as code writes them: six numbers, then twelve bytes. Assumes nothing.
+use mathlib.Core.Path.{_≡_, refl, sym, ap, ap₂, _∙_, subst}
+use Prim.Native.Nat.{ℕ, _+_, _*_, _-_, _^_, _≤_, _<_}
+use native.Mathlib.Omega.{arith}
+use mathlib.Core.Bool.{Bool, true, false, not, _&&_, _||_}
+use mathlib.Core.List.{List, [], _∷_, _++_, append-nil, append-assoc}
+use lib.ListN.{length, getD, take, drop, length-append, length-drop, length-replicate, drop-of-length-le}
+use lib.Seq.{take-all, take-at, drop-at, drop-drop, getD-take, length-take-le}
+use lib.Dec.{T, eqb, leb, ltb, ltb→lt, eqb→eq}
+use borrow.Author.Tests.{le-leb, lt-leb}
+use borrow.Rule.Slice.PartMut.{putMid, midOf}
+use Rattle.codec.specs.Plain.{if_then_else_, within, member, zeros}
+use Rattle.codec.specs.Word.{word, wordAt}
+use Rattle.codec.specs.Code.{byte, word32, both, via, such, many}
+use Rattle.codec.proofs.Tests.{left, right, or-either}
+use Rattle.codec.proofs.Lawful.{such-test, such-under, both-first, both-second}
+use Rattle.codec.proofs.Word.{word-back}
+use Rattle.machine.specs.Codes.{codeOf}
+use Rattle.machine.specs.Message.{bit, takes, idOf, idLimit, idBytes, widthFlag, Rec, twelve, shown, protocolOf, sizeOf, wideOf, dataOf, messageCode, clean, received}
+use Rattle.layout.specs.Record.{row, rec36, recParts, body, dataParts, dataFits, widthFits, outgoing, outCell}
+use Rattle.layout.proofs.Memory.{rec-lawful, shown-is}
+use Rattle.message.specs.Cell.{numbers, padded, Outgoing}
+
+-- ---- the checks
+
+pub checks : (flags : ℕ) (m : List ℕ) {a b c d : Bool} → eqb (wordAt 0 m) 5 ≡ a → within 4 12 (wordAt 16 m) ≡ b → takes flags (wideOf m) ≡ c → ltb (idLimit (wideOf m)) (idOf (dataOf m)) ≡ d
+    → (if not a then 0x15 else if not b then 0x0A else if not c then 0x0A else if d then 0x0A else 0x00) ≡ messageCode flags m
+unfolding messageCode codeOf protocolOf sizeOf
+checks flags m p q r s = sym (λ i. if not (p i) then 0x15 else if not (q i) then 0x0A else if not (r i) then 0x0A else if s i then 0x0A else 0x00)
+
+pub too-small : (n : ℕ) → n < 4 → within 4 12 n ≡ false
+unfolding within
+too-small n h = rw (lt-leb 4 n h)
+
+pub too-large : (n : ℕ) → 4 ≤ n → 12 < n → within 4 12 n ≡ false
+unfolding within
+too-large n g h = rw (le-leb 4 n g) (rw (lt-leb n 12 h))
+
+pub good-size : (n : ℕ) → 4 ≤ n → n ≤ 12 → within 4 12 n ≡ true
+unfolding within
+good-size n g h = rw (le-leb 4 n g) (rw (le-leb n 12 h))
+
+pub id-of-data : (m : List ℕ) → 4 ≤ wordAt 16 m → idOf (dataOf m) ≡ idOf (drop 24 m)
+unfolding idOf dataOf sizeOf
+id-of-data m h =
+    let at : (i : ℕ) → i < 4 → getD (take (wordAt 16 m) (drop 24 m)) i 0 ≡ getD (drop 24 m) i 0 = λ i k. getD-take (wordAt 16 m) (drop 24 m) i 0 (omega arith) in
+    omega (arith, at 0 (omega arith), at 1 (omega arith), at 2 (omega arith), at 3 (omega arith))
+
+-- ---- one part behind another: a first part of k bytes, then n bytes behind it
+
+behind : (k n : ℕ) (ys r zs : List ℕ) → length ys ≡ k → putMid k n (ys ++ r) zs ≡ ys ++ (zs ++ drop n r)
+behind k n ys r zs h = ap₂ (λ (x y : List ℕ). x ++ (zs ++ drop n y)) (take-at ys r k h) (drop-at ys r k h)
+
+pub two-parts : (k n : ℕ) (d ys zs : List ℕ) → length d ≡ k + n → length ys ≡ k → putMid k n (ys ++ drop k d) zs ≡ ys ++ zs
+two-parts k n d ys zs h e =
+    behind k n ys (drop k d) zs e
+    ∙ ap (λ (x : List ℕ). ys ++ (zs ++ x)) (drop-of-length-le (drop k d) {i = n} (omega (arith, length-drop k d)))
+    ∙ ap (λ (x : List ℕ). ys ++ x) (append-nil zs)
+
+mid-long : (k n : ℕ) (d ys : List ℕ) → length d ≡ k + n → length ys ≡ k → length (midOf k n (ys ++ drop k d)) ≡ n
+mid-long k n d ys h e = length-take-le n (drop k (ys ++ drop k d)) (omega (arith, length-drop k (ys ++ drop k d), length-append ys (drop k d), length-drop k d))
+
+pub six-stored : (h : List ℕ) (rx tx time size : ℕ) {a b c d e f : List ℕ} → length h ≡ 24 → a ≡ word 5 → b ≡ word rx → c ≡ word tx → d ≡ word time → e ≡ word size → f ≡ word size
+    → putMid 20 4 (putMid 16 4 (putMid 12 4 (putMid 8 4 (putMid 4 4 (a ++ drop 4 h) b) c) d) e) f ≡ numbers rx tx time size
+unfolding numbers word
+six-stored h rx tx time size l pa pb pc pd pe pf =
+    let none : drop 4 (drop 4 (drop 4 (drop 4 (drop 4 (drop 4 h))))) ≡ [] = simp drop-drop (drop-of-length-le h {i = 24} (omega arith)) in
+    (λ i. putMid 20 4 (putMid 16 4 (putMid 12 4 (putMid 8 4 (putMid 4 4 (pa i ++ drop 4 h) (pb i)) (pc i)) (pd i)) (pe i)) (pf i))
+    ∙ ap (λ (x : List ℕ). numbers rx tx time size ++ x) none
+
+-- bytes, then zeros, over the whole of a slice
+pub padded-over : (j n : ℕ) (d b ys zs : List ℕ) → j ≡ length b → length b ≤ length d → ys ≡ b → n ≡ length (ys ++ drop j d) - length b → zs ≡ zeros (length (midOf (length b) n (ys ++ drop j d)))
+    → putMid (length b) n (ys ++ drop j d) zs ≡ padded (length d) b
+unfolding padded
+padded-over j n d b ys zs ej h e en ez =
+    let ly : length ys ≡ length b = ap length e in
+    let size : n ≡ length d - length b = omega (arith, length-append ys (drop j d), length-drop j d) in
+    let whole : length d ≡ length b + n = omega arith in
+    let rest : length (midOf (length b) n (ys ++ drop j d)) ≡ length d - length b =
+    ap (λ (k : ℕ). length (midOf (length b) n (ys ++ drop k d))) ej ∙ mid-long (length b) n d ys whole ly ∙ size in
+    ap (λ (k : ℕ). putMid (length b) n (ys ++ drop k d) zs) ej
+    ∙ two-parts (length b) n d ys zs whole ly
+    ∙ ap₂ (λ (x y : List ℕ). x ++ y) e (ez ∙ ap (λ (k : ℕ). zeros k) rest)
+
+-- an identifier, then bytes with zeros behind them
+id-padded : (id : ℕ) (b : List ℕ) → idBytes id ++ padded 8 b ≡ padded 12 (idBytes id ++ b)
+unfolding padded idBytes
+id-padded id b =
+    let e : 8 - length b ≡ 12 - length (idBytes id ++ b) = omega arith in
+    ap (λ (n : ℕ). idBytes id ++ (b ++ zeros n)) e
+
+id-long : (id : ℕ) → length (idBytes id) ≡ 4
+unfolding idBytes
+id-long id = refl
+
+pub frame-put : (d ys zs b : List ℕ) (id : ℕ) → length d ≡ 12 → ys ≡ idBytes id → zs ≡ padded (length (midOf 4 8 (ys ++ drop 4 d))) b → putMid 4 8 (ys ++ drop 4 d) zs ≡ padded 12 (idBytes id ++ b)
+frame-put d ys zs b id h y z =
+    let l : length ys ≡ 4 = ap length y ∙ id-long id in
+    two-parts 4 8 d ys zs h l
+    ∙ ap₂ (λ (x y : List ℕ). x ++ y) y (z ∙ ap (λ (k : ℕ). padded k b) (mid-long 4 8 d ys h l))
+    ∙ id-padded id b
+
+-- ---- a record's bytes
+
+numbers-long : (rx tx time size : ℕ) → length (numbers rx tx time size) ≡ 24
+unfolding numbers word
+numbers-long rx tx time size = refl
+
+pub record-is : (r : Rec) → numbers (r .rx) (r .tx) (r .time) (length (r .bytes)) ++ padded 12 (r .bytes) ≡ rec36 .put r
+unfolding numbers padded shown twelve
+record-is r = shown-is r
+
+pub record-put : (cell ys zs : List ℕ) (r : Rec) → length cell ≡ 36 → ys ≡ numbers (r .rx) (r .tx) (r .time) (length (r .bytes)) → zs ≡ padded 12 (r .bytes) → putMid 24 12 (ys ++ drop 24 cell) zs ≡ rec36 .put r
+record-put cell ys zs r h y z =
+    two-parts 24 12 cell ys zs h (ap length y ∙ numbers-long (r .rx) (r .tx) (r .time) (length (r .bytes)))
+    ∙ ap₂ (λ (a b : List ℕ). a ++ b) y z ∙ record-is r
+
+-- ---- the clean record of a message
+
+data-part : (m : List ℕ) (size : ℕ) → 36 ≤ length m → size ≤ 12 → length (take (24 + size - 24) (drop 24 m)) ≡ size
+data-part m size h s = length-take-le (24 + size - 24) (drop 24 m) (omega (arith, length-drop 24 m)) ∙ omega arith
+
+-- the data fits into what is left of the cell
+pub data-fits : (cell ys m : List ℕ) (tx size : ℕ) → length cell ≡ 36 → 36 ≤ length m → size ≤ 12 → ys ≡ numbers 0 tx 0 size → length (take (24 + size - 24) (drop 24 m)) ≤ length (midOf 24 12 (ys ++ drop 24 cell))
+data-fits cell ys m tx size h lm s y = omega (arith, data-part m size lm s, mid-long 24 12 cell ys h (ap length y ∙ numbers-long 0 tx 0 size))
+
+pub clean-put : (cell ys zs m : List ℕ) (tx size : ℕ) → length cell ≡ 36 → 36 ≤ length m → tx ≡ widthFlag (wideOf m) → size ≡ wordAt 16 m → size ≤ 12 → ys ≡ numbers 0 tx 0 size
+    → zs ≡ padded (length (midOf 24 12 (ys ++ drop 24 cell))) (take (24 + size - 24) (drop 24 m)) → putMid 24 12 (ys ++ drop 24 cell) zs ≡ rec36 .put (clean m)
+unfolding clean dataOf sizeOf
+clean-put cell ys zs m tx size h lm et es s y z =
+    let d : take (24 + size - 24) (drop 24 m) ≡ take (wordAt 16 m) (drop 24 m) = let e : 24 + size - 24 ≡ wordAt 16 m = omega arith in ap (λ (k : ℕ). take k (drop 24 m)) e in
+    let n : size ≡ length (take (wordAt 16 m) (drop 24 m)) = sym (data-part m size lm s) ∙ ap length d in
+    let l : length ys ≡ 24 = ap length y ∙ numbers-long 0 tx 0 size in
+    record-put cell ys zs (clean m) h (y ∙ ap₂ (λ (t k : ℕ). numbers 0 t 0 k) et n) (z ∙ ap₂ (λ (k : ℕ) (b : List ℕ). padded k b) (mid-long 24 12 cell ys h l) d)
+
+-- ---- the record of a frame received
+
+pub received-put : (cell ys zs : List ℕ) (clock rx size : ℕ) (wide : Bool) (id : ℕ) (b : List ℕ) → length cell ≡ 36 → rx ≡ widthFlag wide → size ≡ 4 + length b → ys ≡ numbers rx 0 clock size
+    → zs ≡ padded 12 (idBytes id ++ b) → putMid 24 12 (ys ++ drop 24 cell) zs ≡ rec36 .put (received clock (widthFlag wide) (idBytes id ++ b))
+unfolding received
+received-put cell ys zs clock rx size wide id b h er es y z =
+    record-put cell ys zs (received clock (widthFlag wide) (idBytes id ++ b)) h
+    (y ∙ ap₂ (λ (r k : ℕ). numbers r 0 clock k) er (es ∙ sym (length-append (idBytes id) b ∙ ap (λ (k : ℕ). k + length b) (id-long id)))) z
+
+-- ---- a record that is held to be sent: its numbers, and its last twelve bytes
+
+module _ (r : Rec) (t : T (rec36 .ok r)) where
+  fields-ok : T (both word32 (both word32 (both word32 (both word32 body))) .ok (recParts r))
+  unfolding rec36 via
+  fields-ok = such-under (both word32 (both word32 (both word32 (both word32 body)))) (λ p. eqb (p .0) 5) (recParts r) t
+
+  behind-rx : T (both word32 (both word32 body) .ok (r .tx, (r .time, r .bytes)))
+  behind-rx = both-second word32 (both word32 (both word32 body)) (recParts r .1) (both-second word32 (both word32 (both word32 (both word32 body))) (recParts r) fields-ok)
+
+  tx-fits : r .tx < 2 ^ 32
+  unfolding word32
+  tx-fits = ltb→lt (r .tx) (2 ^ 32) (both-first word32 (both word32 body) (r .tx, (r .time, r .bytes)) behind-rx)
+
+  body-ok : T (body .ok (r .bytes))
+  body-ok = both-second word32 body (r .time, r .bytes) (both-second word32 (both word32 body) (r .tx, (r .time, r .bytes)) behind-rx)
+
+  size-fits : length (r .bytes) < 2 ^ 32
+  unfolding body via dataParts word32
+  size-fits = ltb→lt (length (r .bytes)) (2 ^ 32) (both-first word32 (both word32 row) (dataParts (r .bytes)) (such-under (both word32 (both word32 row)) dataFits (dataParts (r .bytes)) body-ok))
+
+  tx-at : wordAt 8 (rec36 .put r) ≡ r .tx
+  unfolding numbers word wordAt
+  tx-at = ap (wordAt 8) (sym (record-is r)) ∙ word-back (r .tx) tx-fits
+
+  size-at : wordAt 16 (rec36 .put r) ≡ length (r .bytes)
+  unfolding numbers word wordAt
+  size-at = ap (wordAt 16) (sym (record-is r)) ∙ word-back (length (r .bytes)) size-fits
+
+  cell-long : length (rec36 .put r) ≡ 36
+  unfolding rec36 body row via such both many word32 byte
+  cell-long = rec-lawful .long r t
+
+  twelve-at : take 12 (drop 24 (rec36 .put r)) ≡ padded 12 (r .bytes)
+  unfolding numbers word
+  twelve-at = take-all 12 (drop 24 (rec36 .put r)) (omega (arith, length-drop 24 (rec36 .put r), cell-long)) ∙ ap (λ (m : List ℕ). drop 24 m) (sym (record-is r))
+
+-- the record that a cell holds
+module _ (m : List ℕ) (o : Outgoing m) where
+  rec-size : rec36 .size ≡ 36
+  unfolding rec36 body row via such both many word32 byte
+  rec-size = refl
+
+  held : rec36 .put (rec36 .get m) ≡ m
+  held = rec-lawful .put-get m (o .long ∙ sym rec-size) (o .valid)
+
+  held-ok : T (rec36 .ok (rec36 .get m))
+  held-ok = rec-lawful .ok-get m (o .long ∙ sym rec-size) (o .valid)
+
+  pub tx-of : wordAt 8 m ≡ rec36 .get m .tx
+  tx-of = ap (wordAt 8) (sym held) ∙ tx-at (rec36 .get m) held-ok
+
+  pub echo-put : (cell ys zs : List ℕ) (clock rx size : ℕ) → length cell ≡ 36 → rx ≡ wordAt 8 m + 1 → size ≡ wordAt 16 m → ys ≡ numbers rx 0 clock size → zs ≡ take 12 (drop 24 m)
+      → putMid 24 12 (ys ++ drop 24 cell) zs ≡ rec36 .put (received clock (rec36 .get m .tx + 1) (rec36 .get m .bytes))
+  unfolding received
+  echo-put cell ys zs clock rx size h er es y z =
+      record-put cell ys zs (received clock (rec36 .get m .tx + 1) (rec36 .get m .bytes)) h
+      (y ∙ ap₂ (λ (a b : ℕ). numbers a 0 clock b) (er ∙ ap (λ (k : ℕ). k + 1) tx-of) (es ∙ ap (wordAt 16) (sym held) ∙ size-at (rec36 .get m) held-ok))
+      (z ∙ ap (λ (x : List ℕ). take 12 (drop 24 x)) (sym held) ∙ twelve-at (rec36 .get m) held-ok)
+
+-- a record that may be held for sending is one to make an echo of
+module _ (flags : ℕ) (r : Rec) (t : T (outCell flags .ok r)) where
+  ok-of : T (rec36 .ok r)
+  unfolding outCell
+  ok-of = such-under rec36 (outgoing flags) r t
+
+  tx-of-two : r .tx ≤ 0x100
+  unfolding outCell outgoing member
+  tx-of-two =
+      let a = eqb (r .rx) 0 in
+      let b = member (r .tx) (0 ∷ 0x100 ∷ []) in
+      let c = eqb (r .time) 0 in
+      let d = widthFits flags (bit 0x100 (r .tx)) (r .bytes) in
+      or-either (eqb (r .tx) 0) (eqb (r .tx) 0x100 || false) (λ e. omega (arith, eqb→eq (r .tx) 0 e))
+      (or-either (eqb (r .tx) 0x100) false (λ e. omega (arith, eqb→eq (r .tx) 0x100 e)) (λ e. absurd e))
+      (right a b (left (a && b) c (left (a && b && c) d (such-test rec36 (outgoing flags) r t))))
+
+  pub outgoing-put : Outgoing (rec36 .put r)
+  outgoing-put =
+      record {
+        long = cell-long r ok-of;
+        valid = rec-lawful .valid-put r ok-of;
+        flags = subst (λ (x : Rec). x .tx ≤ 0x100) (sym (rec-lawful .get-put r ok-of)) tx-of-two;
+      }
