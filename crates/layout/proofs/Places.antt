@@ -80,7 +80,7 @@ vacant-sizes : (j k : ℕ) → vacant (outCell j) .size ≡ vacant (outCell k) .
 unfolding vacant
 vacant-sizes j k = out-sizes j k
 
-periodics-same : (j k : ℕ) (ps : Slots Periodic) → periodics j .put ps ≡ periodics k .put ps
+pub periodics-same : (j k : ℕ) (ps : Slots Periodic) → periodics j .put ps ≡ periodics k .put ps
 unfolding periodics periodicColumns eachVia beside via such both many
 periodics-same j k ps =
     ap (λ (x : List ℕ). putAll word32 (map (λ p. p .0) rows) ++ (putAll word32 (map (λ p. p .0) rows1) ++ (putAll mark (map (λ p. p .0) rows2) ++ x)))

@@ -1,0 +1,175 @@
+-- The part of a region that holds the periodics: its columns, what code reads in them, and the part with another periodic at a place. Assumes nothing.
+use mathlib.Core.Path.{_≡_, refl, sym, ap, ap₂, _∙_, subst}
+use Prim.Native.Nat.{ℕ, zero, suc, _+_, _*_, _≤_, _<_}
+use native.Mathlib.Omega.{arith}
+use mathlib.Core.Bool.{Bool, true, false}
+use mathlib.Core.Option.{Option, none, some}
+use mathlib.Core.List.{List, [], _∷_, map}
+use lib.Dec.{T, eqb}
+use lib.ListN.{length, getD, set, take, drop, length-map, List·getD-map}
+use lib.Seq.{getD-take, getD-drop}
+use borrow.Author.Tests.{eq-eqb, ne-eqb}
+use Rattle.codec.specs.Word.{wordAt}
+use Rattle.codec.specs.Code.{Code, byte, word32, both, via, such, mark, markOf, many, vacant, putVacant, beside, eachVia}
+use Rattle.codec.proofs.Lists.{all-at}
+use Rattle.codec.proofs.Lawful.{Lawful, word-lawful, mark-lawful, mark-ok}
+use Rattle.codec.proofs.Many.{vacant-lawful}
+use Rattle.codec.proofs.Word.{word-part}
+use Rattle.codec.proofs.Cells.{Cell, cell-first, cell-next, cell-last, Stored, as-it-was, entry-is, byte-stored, each-ok, each-put, place-set}
+use Rattle.machine.specs.Filter.{Slots}
+use Rattle.machine.specs.Channel.{Periodic, calm}
+use Rattle.layout.specs.Record.{rec36, outCell}
+use Rattle.layout.specs.Memory.{PeriodicRow, periodicParts, periodicBack, periodicFits, periodicColumns, periodics}
+use Rattle.layout.proofs.Memory.{out-lawful, out-shows, periodics-lawful}
+use Rattle.layout.proofs.Places.{periodics-same}
+use Rattle.layout.proofs.Sizes.{out-size, periodics-size}
+use Rattle.layout.proofs.Rows.{rows-set}
+use Rattle.layout.proofs.Held.{periodicPlace, periodics-rows, no-periodic, Sound, periodic-make, periodic-sound}
+use Rattle.periodics.specs.Part.{PeriodicPart, isPending, firstPending, calmSlot, changed}
+use Rattle.periodics.proofs.Next.{first-is}
+
+-- ---- the four columns
+
+module _ (flags : ℕ) where
+  pub record-lawful : Lawful (vacant (outCell flags))
+  record-lawful = vacant-lawful (out-lawful flags) (out-shows flags)
+
+  pub intervals-cell : Cell (periodicColumns flags) word32 0 (λ p. p .0) (λ n p. (n, p .1))
+  unfolding periodicColumns
+  intervals-cell = cell-first 10 _ word-lawful
+
+  pub phases-cell : Cell (periodicColumns flags) word32 40 (λ p. p .1 .0) (λ n p. (p .0, (n, p .1 .1)))
+  unfolding periodicColumns word32
+  phases-cell = cell-next 10 word-lawful (cell-first 10 _ word-lawful)
+
+  pub marks-cell : Cell (periodicColumns flags) mark 80 (λ p. p .1 .1 .0) (λ b p. (p .0, (p .1 .0, (b, p .1 .1 .1))))
+  unfolding periodicColumns word32
+  marks-cell = cell-next 10 word-lawful (cell-next 10 word-lawful (cell-first 10 _ mark-lawful))
+
+  pub records-cell : Cell (periodicColumns flags) (vacant (outCell flags)) 90 (λ p. p .1 .1 .1) (λ x p. (p .0, (p .1 .0, (p .1 .1 .0, x))))
+  unfolding periodicColumns mark via such byte word32
+  records-cell = cell-next 10 word-lawful (cell-next 10 word-lawful (cell-next 10 mark-lawful (cell-last record-lawful 10)))
+
+-- ---- the row of a place
+
+parts-pending : (x : Option Periodic) → periodicParts x .1 .1 .0 ≡ isPending x
+unfolding isPending
+parts-pending none = refl
+parts-pending (some p) = refl
+
+calm-row : (x : Option Periodic) → (periodicParts x .0, (periodicParts x .1 .0, (false, periodicParts x .1 .1 .1))) ≡ periodicParts (calmSlot x)
+unfolding calmSlot calm
+calm-row none = refl
+calm-row (some p) = refl
+
+-- what is read of the periodics does not depend on the flags, as their bytes do not (`periodics-same`)
+pub any-get : (j k : ℕ) (m : List ℕ) → periodics j .get m ≡ periodics k .get m
+unfolding periodics eachVia via such periodicColumns beside both many vacant outCell
+any-get j k m = refl
+
+-- ---- what can be held at a place, and at the ten places with one changed
+
+module _ (flags : ℕ) (ps : Slots Periodic) (t : T (periodics flags .ok ps)) (i : ℕ) where
+  pub place-ok : T (periodicPlace flags (getD ps i none))
+  place-ok = all-at (periodicPlace flags) ps i none (no-periodic flags) (periodics-rows flags .each ps t)
+
+  pub changed-ok : (f : Option Periodic → Option Periodic) → ((x : Option Periodic) → T (periodicPlace flags x) → T (periodicPlace flags (f x))) → T (periodics flags .ok (changed f i ps))
+  unfolding changed
+  changed-ok f k = rows-set (periodics-rows flags) ps i (f (getD ps i none)) t (k (getD ps i none) place-ok)
+
+  pub sound-at : (p : Periodic) → getD ps i none ≡ some p → Sound flags p
+  sound-at p e = periodic-sound flags p (subst (λ x. T (periodicPlace flags x)) e place-ok)
+
+pub calm-ok : (flags : ℕ) (x : Option Periodic) → T (periodicPlace flags x) → T (periodicPlace flags (calmSlot x))
+unfolding calmSlot calm
+calm-ok flags none t = t
+calm-ok flags (some p) t = let s = periodic-sound flags p t in periodic-make flags _ (search)
+
+pub changed-calm : (ps : Slots Periodic) (i : ℕ) (p : Periodic) → getD ps i none ≡ some p → changed calmSlot i ps ≡ set ps i (some (calm p))
+unfolding changed calmSlot
+changed-calm ps i p e = ap (λ (x : Option Periodic). set ps i (calmSlot x)) e
+
+-- ---- a part as it is lent
+
+module _ (m : List ℕ) (v : PeriodicPart m) where
+  abbrev pub held : Slots Periodic
+  held = periodics (v .flags) .get m
+
+  sized : length m ≡ periodics (v .flags) .size
+  sized = v .long ∙ sym (periodics-size (v .flags))
+
+  pub held-ok : T (periodics (v .flags) .ok held)
+  held-ok = periodics-lawful (v .flags) .ok-get m sized (v .valid)
+
+  pub ten-held : length held ≡ 10
+  ten-held = periodics-rows (v .flags) .count held held-ok
+
+  abbrev rows : List PeriodicRow
+  rows = map periodicParts held
+
+  rows-ok : T (periodicColumns (v .flags) .ok rows)
+  unfolding periodics
+  rows-ok = each-ok periodicParts periodicBack periodicFits (periodicColumns (v .flags)) held held-ok
+
+  rows-are : m ≡ periodicColumns (v .flags) .put rows
+  unfolding periodics
+  rows-are = sym (periodics-lawful (v .flags) .put-get m sized (v .valid)) ∙ each-put periodicParts periodicBack periodicFits (periodicColumns (v .flags)) held
+
+  module _ (i : ℕ) (h : i < 10) where
+    abbrev pub heldAt : Option Periodic
+    heldAt = getD held i none
+
+    here : i < length rows
+    here = omega (arith, ten-held, length-map held periodicParts)
+
+    row-is : getD rows i (periodicParts none) ≡ periodicParts heldAt
+    row-is = List·getD-map periodicParts held i none
+
+    -- what is read in a column
+    bytes-at : {B : Type 0} {d : Code B} {off : ℕ} {field : PeriodicRow → B} {with : B → PeriodicRow → PeriodicRow} → Cell (periodicColumns (v .flags)) d off field with → Lawful d
+        → (a n : ℕ) → a ≡ off + i * d .size → n ≡ d .size → take n (drop a m) ≡ d .put (field (periodicParts heldAt))
+    bytes-at {d = d} {field = field} c l a n ea en = entry-is c l rows i (periodicParts none) rows-ok here rows-are a n ea en ∙ ap (λ x. d .put (field x)) row-is
+
+    value-at : {B : Type 0} {d : Code B} {off : ℕ} {field : PeriodicRow → B} {with : B → PeriodicRow → PeriodicRow} → Cell (periodicColumns (v .flags)) d off field with → Lawful d
+        → (a n : ℕ) → a ≡ off + i * d .size → n ≡ d .size → d .get (take n (drop a m)) ≡ field (periodicParts heldAt)
+    value-at {d = d} {field = field} c l a n ea en =
+        ap (d .get) (bytes-at c l a n ea en) ∙ l .get-put _ (subst (λ x. T (d .ok (field x))) row-is (c .held rows i (periodicParts none) rows-ok here))
+
+    pub pending-at : eqb 1 (getD m (80 + i) 0) ≡ isPending heldAt
+    unfolding mark via such byte
+    pending-at =
+        let z : 80 + i ≡ 80 + i + 0 = omega arith in
+        ap (λ (k : ℕ). eqb 1 (getD m k 0)) z ∙ sym (ap (eqb 1) (getD-take 1 (drop (80 + i) m) 0 0 (omega arith) ∙ getD-drop (80 + i) m 0 0))
+        ∙ value-at (marks-cell (v .flags)) mark-lawful (80 + i) 1 (omega arith) refl ∙ parts-pending heldAt
+
+    -- the record of a periodic
+    pub message-at : (p : Periodic) → heldAt ≡ some p → take 36 (drop (90 + i * 36) m) ≡ rec36 .put (p .message)
+    unfolding vacant outCell such
+    message-at p e =
+        bytes-at (records-cell (v .flags)) (record-lawful (v .flags)) (90 + i * 36) 36 (ap (λ (k : ℕ). 90 + i * k) (sym (out-size (v .flags)))) (sym (out-size (v .flags)))
+        ∙ ap (λ x. vacant (outCell (v .flags)) .put (periodicParts x .1 .1 .1)) e
+
+    -- what is stored
+    row-before : Stored (periodicColumns (v .flags)) rows i (periodicParts heldAt) m
+    row-before = subst (λ x. Stored (periodicColumns (v .flags)) rows i x m) row-is (as-it-was (periodicColumns (v .flags)) rows i (periodicParts none) rows-ok rows-are)
+
+    row-stored : (f : Option Periodic → Option Periodic) (flags : ℕ) {row : PeriodicRow} {ys : List ℕ} → row ≡ periodicParts (f heldAt) → Stored (periodicColumns (v .flags)) rows i row ys
+        → ys ≡ periodics flags .put (changed f i (periodics flags .get m))
+    unfolding periodics changed
+    row-stored f flags {ys = ys} e s =
+        place-set periodicParts periodicBack periodicFits (periodicColumns (v .flags)) held (subst (λ x. Stored (periodicColumns (v .flags)) rows i x ys) e s)
+        ∙ periodics-same (v .flags) flags (changed f i held) ∙ ap (λ (x : Slots Periodic). periodics flags .put (changed f i x)) (any-get (v .flags) flags m)
+
+    pub calmed : (flags : ℕ) → set m (80 + i) 0 ≡ periodics flags .put (changed calmSlot i (periodics flags .get m))
+    unfolding mark via such byte
+    calmed flags =
+        let l : 80 + i < length m = omega (arith, v .long) in
+        row-stored calmSlot flags (calm-row heldAt) (byte-stored (marks-cell (v .flags)) mark-lawful row-before here false (mark-ok false) (80 + i) 0 (omega arith) refl l refl)
+
+  -- the first pending place, found by its mark
+  pub found-pending : (i : ℕ) → i ≤ 10 → ((k : ℕ) → k < i → getD m (80 + k) 0 ≡ 1 → ⊥) → (i < 10 → getD m (80 + i) 0 ≡ 1) → (flags : ℕ) → i ≡ firstPending (periodics flags .get m)
+  found-pending i h below this flags =
+      first-is held i (omega (arith, ten-held))
+      (λ k l. sym (pending-at k (omega arith)) ∙ ne-eqb 1 (getD m (80 + k) 0) (λ e. below k l (sym e)))
+      (λ l. let j : i < 10 = omega (arith, ten-held) in sym (pending-at i j) ∙ eq-eqb 1 (getD m (80 + i) 0) (sym (this j)))
+      ∙ ap firstPending (any-get (v .flags) flags m)
