@@ -24,7 +24,7 @@ use Rattle.layout.proofs.Memory.{out-lawful, out-shows, periodics-lawful}
 use Rattle.layout.proofs.Places.{periodics-same}
 use Rattle.layout.proofs.Sizes.{out-size, periodics-size}
 use Rattle.layout.proofs.Rows.{rows-set}
-use Rattle.layout.proofs.Held.{periodicPlace, periodics-rows, no-periodic, Sound, periodic-make, periodic-sound}
+use Rattle.layout.proofs.Held.{periodicPlace, periodics-rows, no-periodic, PeriodicFits, periodic-make, periodic-sound}
 use Rattle.periodics.specs.Part.{PeriodicPart, isPending, firstPending, calmSlot, changed}
 use Rattle.periodics.proofs.Next.{first-is}
 
@@ -77,7 +77,7 @@ module _ (flags : ℕ) (ps : Slots Periodic) (t : T (periodics flags .ok ps)) (i
   unfolding changed
   changed-ok f k = rows-set (periodics-rows flags) ps i (f (getD ps i none)) t (k (getD ps i none) place-ok)
 
-  pub sound-at : (p : Periodic) → getD ps i none ≡ some p → Sound flags p
+  pub sound-at : (p : Periodic) → getD ps i none ≡ some p → PeriodicFits flags p
   sound-at p e = periodic-sound flags p (subst (λ x. T (periodicPlace flags x)) e place-ok)
 
 pub calm-ok : (flags : ℕ) (x : Option Periodic) → T (periodicPlace flags x) → T (periodicPlace flags (calmSlot x))
