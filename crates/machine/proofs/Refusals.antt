@@ -21,10 +21,19 @@ use Rattle.machine.proofs.Dispatch.{connect-speaker, call-heard, same-d
 
 -- ---- tables of tests and codes
 
--- a code that is one of two is in the table where both are
-either-listed : (g : Bool) (x y : ℕ) → T (member x table) → T (member y table) → T (member (if g then x else y) table)
-either-listed true x y p q = p
-either-listed false x y p q = q
+-- a choice whose test fails
+if-out : {A : Type 0} (g : Bool) (x y : A) → g ≡ false → (if g then x else y) ≡ y
+if-out true x y h = absurd (true≢false h)
+if-out false x y h = refl
+
+-- a code that is one of two is in a list where both are
+either-in : (codes : List ℕ) (g : Bool) (x y : ℕ) → T (member x codes) → T (member y codes) → T (member (if g then x else y) codes)
+either-in codes true x y p q = p
+either-in codes false x y p q = q
+
+-- and where its test fails, the second is enough
+either-out : (codes : List ℕ) (g : Bool) (x y : ℕ) → g ≡ false → T (member y codes) → T (member (if g then x else y) codes)
+either-out codes g x y h q = subst (λ (n : ℕ). T (member n codes)) (sym (if-out g x y h)) q
 
 -- every code that the tests can give is in the table
 abbrev Listed : List (Bool × ℕ) → Type 0
@@ -35,7 +44,7 @@ Listed (t ∷ ts) = T (member (t .1) table) × Listed ts
 codeOf-listed : (ts : List (Bool × ℕ)) → Listed ts → T (member (codeOf ts) table)
 unfolding codeOf
 codeOf-listed [] h = unfold member table in tt
-codeOf-listed (t ∷ ts) h = either-listed (t .0) (t .1) (codeOf ts) (h .0) (codeOf-listed ts (h .1))
+codeOf-listed (t ∷ ts) h = either-in table (t .0) (t .1) (codeOf ts) (h .0) (codeOf-listed ts (h .1))
 
 -- ---- outcomes
 
@@ -91,18 +100,17 @@ messageCode-listed flags m = search (codeOf-listed, tt) depth 16
 
 readCode-listed : (lost : Bool) (n m : ℕ) → T (member (readCode lost n m) table)
 unfolding readCode table member
-readCode-listed lost n m = search (either-listed, tt)
+readCode-listed lost n m = search (either-in, tt)
 
 -- a read's code is a result, or the lost mark is not set and nothing is moved
 read-nothing : (lost : Bool) (n m : ℕ) → T (member (readCode lost n m) results) ⊎ ((lost ≡ false) × (m ≡ 0))
 unfolding readCode results member
-read-nothing true n m = inl tt
-read-nothing false n m = by (eqb m n) (eqb m 0) refl
+read-nothing true n m = inl (search (either-in, tt))
+read-nothing false n m = by (eqb m 0) refl
   where
-    by : (a z : Bool) → eqb m 0 ≡ z → T (member (if a then 0x00 else if z then 0x10 else 0x09) results) ⊎ ((false ≡ false) × (m ≡ 0))
-    by true z q = inl tt
-    by false true q = inr (refl, eqb-true m 0 q)
-    by false false q = inl tt
+    by : (z : Bool) → eqb m 0 ≡ z → T (member (readCode false n m) results) ⊎ ((false ≡ false) × (m ≡ 0))
+    by true q = inr (refl, eqb-true m 0 q)
+    by false q = inl (search (either-in, either-out, tt))
 
 -- ---- a write
 
@@ -154,7 +162,7 @@ not-above false n t = omega (arith, nltb→le 0 n t)
 -- ---- the calls on an open channel
 
 -- what makes an outcome fair
-ruleset fair = (kept, settled, refused-or, one-or, codeOf-listed, either-listed, messageCode-listed, refl, tt)
+ruleset fair = (kept, settled, refused-or, one-or, codeOf-listed, either-in, messageCode-listed, refl, tt)
 
 module _ (k : ℕ) (o : Open) where
   -- a write: a refusal counts none, so it queued none
@@ -229,11 +237,6 @@ module _ (k : ℕ) (o : Open) where
   open-fair rates now (setParameter p v) = search fair depth 16
 
 -- ---- every event
-
--- a choice whose test fails
-if-out : {A : Type 0} (g : Bool) (x y : A) → g ≡ false → (if g then x else y) ≡ y
-if-out true x y h = absurd (true≢false h)
-if-out false x y h = refl
 
 module _ (rates : List ℕ) where
   -- what an event does to a channel that it touches
