@@ -119,14 +119,14 @@ pub passAndBlock : Happens
 unfolding answered
 passAndBlock = asTold refl
 
--- "The frame's bytes are the four identifier bytes and its data; a byte the frame doesn't have counts as zero", for pass and for block; mask and
--- pattern bytes beyond the size are ignored
+-- "The frame's bytes are the four identifier bytes and its data; a byte the frame doesn't have counts as zero", for pass and for block; RxStatus,
+-- timestamp, extra index and the bytes beyond the size of mask and pattern are ignored
 pub shortFrame : Happens
     (connect 0 5 0 500000 ⇒ gives 1
     ∷ call 1
     (startFilter 1
-    (raw 5 0 0 0 5 0 (0xFF ∷ 0xFF ∷ 0xFF ∷ 0xFF ∷ 0xFF ∷ 0xFF ∷ []))
-    (raw 5 0 0 0 5 0 (0x00 ∷ 0x00 ∷ 0x07 ∷ 0xE8 ∷ 0x00 ∷ 0x99 ∷ [])))
+    (raw 5 1 0 2 5 3 (0xFF ∷ 0xFF ∷ 0xFF ∷ 0xFF ∷ 0xFF ∷ 0xFF ∷ []))
+    (raw 5 4 0 5 5 6 (0x00 ∷ 0x00 ∷ 0x07 ∷ 0xE8 ∷ 0x00 ∷ 0x99 ∷ [])))
     ⇒ gives 1
     ∷ frame 0 0 0x7E8 [] ⇒ done
     ∷ frame 0 0 0x7E8 (0x00 ∷ []) ⇒ done
