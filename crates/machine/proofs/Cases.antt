@@ -9,7 +9,7 @@ use Rattle.machine.specs.Message.{idBytes, twelve}
 use Rattle.machine.specs.Filter.{matches}
 use Rattle.machine.specs.Cases.{Holds, timed, narrow, twelveCases, Every, _&_}
 
--- in the fifth the pattern has bits outside the mask, where frame byte AND mask byte is 0 for every frame
+-- THE TWELVE CASES. In the fifth the pattern has bits outside the mask, where frame byte AND mask byte is 0 for every frame
 pub cases : Every Holds twelveCases
 unfolding allBelow onlyIf within bit isOpeningId isDestination isId isApplication idAt openingOf readOpening unusedTime connectionOf readChannel timeOf idBytes twelve matches timed narrow
 cases =

@@ -19,6 +19,7 @@ infix 70 _⇒_
 abbrev pub _⇒_ : Event → Answer → Event × Answer
 _⇒_ e a = (e, a)
 
+-- events with their answers, in order
 abbrev pub Story : Type 0
 Story = List (Event × Answer)
 
