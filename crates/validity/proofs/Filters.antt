@@ -6,19 +6,18 @@ use mathlib.Core.Bool.{Bool, true, false, _&&_, not}
 use mathlib.Core.List.{List, []}
 use lib.ListN.{length, getD, take, drop}
 use lib.Seq.{drop-drop}
-use lib.Dec.{T, eqb, leb, eqb·suc-zero}
+use lib.Dec.{eqb, leb, eqb·suc-zero}
 use borrow.Author.Tests.{eq-eqb, ne-eqb, lt-leb}
-use Rattle.codec.specs.Plain.{if_then_else_, within, zeros, allZero, allBelow}
-use Rattle.codec.specs.Code.{byte, both, via, such, mark, many, beside, eachVia}
+use Rattle.codec.specs.Plain.{if_then_else_, within, allZero, allBelow}
+use Rattle.codec.specs.Code.{byte, via, such, mark, many}
 use Rattle.codec.proofs.Tests.{and-true, and-false}
 use Rattle.codec.proofs.Lawful.{byte-lawful, mark-lawful}
 use Rattle.machine.specs.Message.{takes}
-use Rattle.machine.specs.Filter.{noneYet}
 use Rattle.layout.specs.Record.{row}
 use Rattle.layout.specs.Memory.{filterParts, filterBack, filterFits, filterColumns, filters}
-use Rattle.layout.proofs.Memory.{row-lawful, filters-lawful}
+use Rattle.layout.proofs.Memory.{row-lawful}
 use Rattle.validity.specs.Place.{filterAt, filterGood}
-use Rattle.validity.proofs.Parts.{Bytes, zeros-good}
+use Rattle.validity.proofs.Parts.{Bytes}
 use Rattle.validity.proofs.Columns.{many-rows, beside-rows, each-rows, below-same, byte-row, byte-row-got, mark-row, mark-row-got, row-row, row-row-got}
 
 -- ---- ten filters, filter by filter
@@ -61,17 +60,6 @@ module _ (flags : ℕ) (m : List ℕ) (h : length m ≡ 270) (t : Bytes m) where
         ),
       ))
       ∙ ap (λ (b : Bool). b && filterFits flags (filterAt i m)) (and-true (leb (getD m (10 + i) 0) 1))))
-
-none-ok : (flags : ℕ) → T (filters flags .ok noneYet)
-unfolding filters filterColumns eachVia beside via such both many row mark byte noneYet filterFits
-none-ok flags = tt
-
-none-put : (flags : ℕ) → filters flags .put noneYet ≡ zeros 270
-unfolding filters filterColumns eachVia beside via such both many row mark byte noneYet
-none-put flags = refl
-
-pub filters-none : (flags : ℕ) (m : List ℕ) → length m ≡ 270 → allZero m ≡ true → true ≡ filters flags .valid m
-filters-none flags m h z = zeros-good (filters-lawful flags) noneYet 270 m (none-ok flags) (none-put flags) h z
 
 -- ---- one filter, as code finds it out: what follows its size in mask and pattern is zeros
 

@@ -7,21 +7,19 @@ use mathlib.Core.Option.{none, some}
 use mathlib.Core.List.{List}
 use lib.ListN.{length, getD, take, drop, length-drop}
 use lib.Seq.{getD-take, drop-drop, length-take-le}
-use lib.Dec.{T, eqb, leb, ltb, eqb→eq}
-use Rattle.codec.specs.Plain.{if_then_else_, isByte, within, zeros, allZero, allBelow}
-use Rattle.codec.specs.Word.{word, wordAt}
-use Rattle.codec.specs.Code.{Code, byte, word32, both, via, such, mark, many, vacant, beside, eachVia}
+use lib.Dec.{eqb, leb, ltb, eqb→eq}
+use Rattle.codec.specs.Plain.{if_then_else_, isByte, within, allZero, allBelow}
+use Rattle.codec.specs.Word.{wordAt}
+use Rattle.codec.specs.Code.{Code, byte, word32, both, via, such, mark, many, vacant}
 use Rattle.codec.proofs.Tests.{T-false, and-false}
 use Rattle.codec.proofs.Lists.{all-at, all-take, all-drop}
 use Rattle.codec.proofs.Lawful.{Lawful, word-lawful, mark-lawful}
 use Rattle.codec.proofs.Many.{vacant-lawful}
-use Rattle.machine.specs.Message.{Rec}
-use Rattle.machine.specs.Filter.{noneYet}
 use Rattle.layout.specs.Record.{row, body, rec36, outCell}
 use Rattle.layout.specs.Memory.{periodicParts, periodicBack, timerFits, periodicFits, periodicColumns, periodics}
-use Rattle.layout.proofs.Memory.{out-lawful, out-shows, periodics-lawful}
+use Rattle.layout.proofs.Memory.{out-lawful, out-shows}
 use Rattle.validity.specs.Place.{recordAt, periodicAt, periodicGood}
-use Rattle.validity.proofs.Parts.{Bytes, at-rest, zeros-good}
+use Rattle.validity.proofs.Parts.{Bytes, at-rest}
 use Rattle.validity.proofs.Records.{out-none}
 use Rattle.validity.proofs.Columns.{cellAt, cell-there, many-rows, beside-rows, each-rows, below-same, mark-row, mark-row-got, word-row, word-row-got}
 
@@ -59,17 +57,6 @@ module _ (flags : ℕ) (m : List ℕ) (t : Bytes m) where
           ),
         ),
       ))))
-
-none-ok : (flags : ℕ) → T (periodics flags .ok noneYet)
-unfolding periodics periodicColumns eachVia beside via such both many vacant word32 mark byte noneYet periodicFits
-none-ok flags = tt
-
-none-put : (flags : ℕ) → periodics flags .put noneYet ≡ zeros 450
-unfolding periodics periodicColumns eachVia beside via such both many vacant outCell rec36 body row word32 word mark byte noneYet
-none-put flags = refl
-
-pub periodics-none : (flags : ℕ) (m : List ℕ) → length m ≡ 450 → allZero m ≡ true → true ≡ periodics flags .valid m
-periodics-none flags m h z = zeros-good (periodics-lawful flags) noneYet 450 m (none-ok flags) (none-put flags) h z
 
 -- ---- one periodic, as code finds it out: it is empty where its record begins with 0
 
