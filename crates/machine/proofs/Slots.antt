@@ -1,6 +1,6 @@
 -- Places that a loop looks at from the front: the first empty one, and a test of the taken ones. Assumes nothing.
 use mathlib.Core.Path.{_≡_, refl, sym, ap, _∙_}
-use Prim.Native.Nat.{ℕ, zero, suc, _+_, _≤_, _<_}
+use Prim.Native.Nat.{ℕ, zero, suc, _+_, _≤_, _<_, suc-le-suc}
 use native.Mathlib.Nat.{zero-add}
 use native.Mathlib.Numerals.{add-one}
 use native.Mathlib.Omega.{arith}
@@ -27,6 +27,13 @@ module _ {A : Type 0} where
   unfolding free taken
   free-none none s e = refl
   free-none (some a) s e = cc
+
+  -- no place is taken
+  pub any-empty : (p : A → Bool) (s : Slots A) → ((i : ℕ) → i < length s → taken (getD s i none) ≡ false) → anySlot p s ≡ false
+  unfolding anySlot taken
+  any-empty p [] f = refl
+  any-empty p (none ∷ s) f = any-empty p s (λ i h. f (suc i) (suc-le-suc h))
+  any-empty p (some a ∷ s) f = let e : true ≡ false = f 0 (omega arith) in cc
 
   module _ (s : Slots A) (i : ℕ) where
     rest-of : i < length s → drop i s ≡ getD s i none ∷ drop (i + 1) s

@@ -1,0 +1,5 @@
+pub mod Fill
+pub mod Looks
+pub mod Held
+pub mod Steps
+pub mod OnRegion

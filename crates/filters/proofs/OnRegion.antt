@@ -1,0 +1,117 @@
+-- The filters in the region of an open channel: the part that is lent, and what each call promises. Assumes nothing.
+use mathlib.Core.Path.{_≡_, refl, sym, ap, _∙_, subst}
+use Prim.Native.Nat.{ℕ, zero, suc, _+_, _-_, _≤_, _<_}
+use native.Mathlib.Omega.{arith}
+use mathlib.Core.Bool.{Bool, true, false, _&&_}
+use mathlib.Core.Option.{Option, none, some}
+use mathlib.Core.List.{List, [], _∷_}
+use lib.Dec.{leb, leb→le}
+use lib.ListN.{length, getD, set, take, drop, List·getD-eq-default}
+use lib.Seq.{getD-take, getD-drop}
+use borrow.Author.Tests.{le-leb, leb-false}
+use borrow.Rule.Slice.PartMut.{putMid}
+use Rattle.codec.specs.Plain.{within, zeros}
+use Rattle.codec.specs.Word.{wordAt}
+use Rattle.codec.specs.Code.{byte, via, such, mark, both, many, beside, eachVia}
+use Rattle.codec.proofs.Tests.{left, right, true-T}
+use Rattle.machine.specs.Codes.{threeRates}
+use Rattle.machine.specs.Filter.{Slots, Filter, noneYet, free, taken, has}
+use Rattle.machine.specs.Channel.{filterCode, filterOf, startFilter, stopFilter, clear, says, Outcome, withFilters}
+use Rattle.layout.specs.Record.{row}
+use Rattle.layout.specs.Memory.{filterColumns, filters}
+use Rattle.layout.specs.Promise.{gives, Opened, callOutcome}
+use Rattle.layout.proofs.Places.{fl}
+use Rattle.layout.proofs.Region.{openOf, word-of, stays, moves, flags-part, filters-part}
+use Rattle.filters.specs.Part.{FilterPart}
+use Rattle.filters.proofs.Held.{any-flags, ten-held, is-empty, is-taken}
+use Rattle.filters.proofs.Steps.{start-refused, start-done, stop-refused, stop-done, clear-done}
+
+-- ten empty places are zeros
+cleared : (flags : ℕ) → zeros 270 ≡ filters flags .put noneYet
+unfolding filters eachVia beside filterColumns row many via such both mark byte noneYet
+cleared flags = refl
+
+-- the place of a number, where there is one
+has-place : {A : Type 0} (s : Slots A) (n : ℕ) → 1 ≤ n → has s n ≡ taken (getD s (n - 1) none)
+unfolding has
+has-place s zero h = absurd (omega arith)
+has-place s (suc n) h = let e : n ≡ suc n - 1 = omega arith in ap (λ (k : ℕ). taken (getD s k none)) e
+
+-- ten places have the numbers 1 to 10
+has-none : {A : Type 0} (s : Slots A) (n : ℕ) → length s ≡ 10 → within 1 10 n ≡ false → has s n ≡ false
+unfolding has taken within
+has-none s zero h w = refl
+has-none s (suc n) h w =
+    let over : 10 < suc n = leb-false (suc n) 10 (ap (λ (b : Bool). b && leb (suc n) 10) (sym (le-leb 1 (suc n) (omega arith))) ∙ w) in
+    ap taken (List·getD-eq-default s none (omega arith))
+
+module _ (n : ℕ) (w : within 1 10 n ≡ true) where
+  pub number-low : 1 ≤ n
+  unfolding within
+  number-low = leb→le 1 n (left (leb 1 n) (leb n 10) (true-T (within 1 10 n) w))
+
+  pub number-high : n ≤ 10
+  unfolding within
+  number-high = leb→le n 10 (right (leb 1 n) (leb n 10) (true-T (within 1 10 n) w))
+
+module _ (r : List ℕ) (f : Opened r) where
+  pub part-lent : FilterPart (take 270 (drop 10 r))
+  part-lent = let p = filters-part r f in record { flags = fl (openOf r); long = p .long; valid = p .valid }
+
+  pub held-is : (flags : ℕ) → filters flags .get (take 270 (drop 10 r)) ≡ openOf r .filters
+  held-is flags = any-flags flags (fl (openOf r)) (take 270 (drop 10 r)) ∙ filters-part r f .got
+
+  pub flags-are : wordAt 1 r ≡ openOf r .config .flags
+  flags-are = word-of (flags-part r f)
+
+  ten-places : length (openOf r .filters) ≡ 10
+  ten-places = ap length (sym (held-is 0)) ∙ ten-held (take 270 (drop 10 r)) part-lent 0
+
+  moved : (ys : List ℕ) (i : ℕ) (x : Option Filter) → ((flags : ℕ) → ys ≡ filters flags .put (set (filters flags .get (take 270 (drop 10 r))) i x)) → ys ≡ filters (fl (openOf r)) .put (set (openOf r .filters) i x)
+  moved ys i x e = e (fl (openOf r)) ∙ ap (λ (s : Slots Filter). filters (fl (openOf r)) .put (set s i x)) (held-is (fl (openOf r)))
+
+  module _ (t : ℕ) where
+    module _ (kind : ℕ) (mask pattern : List ℕ) where
+      pub not-started : (code : ℕ) → code ≡ filterCode (openOf r) kind mask pattern → (code ≡ 0 → ⊥) → gives code 0 [] r ≡ callOutcome threeRates t r (startFilter kind mask pattern)
+      not-started code e n = stays r f threeRates t (startFilter kind mask pattern) code 0 [] (start-refused threeRates t (openOf r) kind mask pattern code e n)
+
+      pub started : (place : ℕ) (ys : List ℕ) → 0 ≡ filterCode (openOf r) kind mask pattern → place ≡ free (openOf r .filters)
+          → ((flags : ℕ) → ys ≡ filters flags .put (set (filters flags .get (take 270 (drop 10 r))) place (some (filterOf kind mask pattern))))
+          → gives 0 (place + 1) [] (putMid 10 270 r ys) ≡ callOutcome threeRates t r (startFilter kind mask pattern)
+      started place ys e p y =
+          let x = some (filterOf kind mask pattern) in
+          moves r f threeRates t (startFilter kind mask pattern) _ 0 (place + 1) [] _
+          (start-done threeRates t (openOf r) kind mask pattern e
+          ∙ ap {B = Outcome} (λ (k : ℕ). (withFilters (openOf r) (set (openOf r .filters) k x), says 0 (k + 1) [])) (sym p))
+          (filters-part r f .becomes ys (set (openOf r .filters) place x) (moved ys place x y))
+
+    module _ (number : ℕ) where
+      refused : has (openOf r .filters) number ≡ false → gives 0x16 0 [] r ≡ callOutcome threeRates t r (stopFilter number)
+      refused e = stays r f threeRates t (stopFilter number) 0x16 0 [] (stop-refused threeRates t (openOf r) number e)
+
+      pub no-number : within 1 10 number ≡ false → gives 0x16 0 [] r ≡ callOutcome threeRates t r (stopFilter number)
+      no-number w = refused (has-none (openOf r .filters) number ten-places w)
+
+      module _ (l : 1 ≤ number) (h : number ≤ 10) where
+        abbrev i : ℕ
+        i = number - 1
+
+        here : getD r (10 + i) 0 ≡ getD (take 270 (drop 10 r)) i 0
+        here = sym (getD-take 270 (drop 10 r) i 0 (omega arith) ∙ getD-drop 10 r i 0)
+
+        held-here : (b : Bool) → ((flags : ℕ) → taken (getD (filters flags .get (take 270 (drop 10 r))) i none) ≡ b) → has (openOf r .filters) number ≡ b
+        held-here b e = has-place (openOf r .filters) number l ∙ ap (λ (s : Slots Filter). taken (getD s i none)) (sym (held-is 0)) ∙ e 0
+
+        pub not-held : getD r (10 + i) 0 ≡ 0 → gives 0x16 0 [] r ≡ callOutcome threeRates t r (stopFilter number)
+        not-held e = refused (held-here false (is-empty (take 270 (drop 10 r)) part-lent i (omega arith) (sym here ∙ e)))
+
+        pub stopped : (getD r (10 + i) 0 ≡ 0 → ⊥) → (ys : List ℕ) → ((flags : ℕ) → ys ≡ filters flags .put (set (filters flags .get (take 270 (drop 10 r))) i none))
+            → gives 0 0 [] (putMid 10 270 r ys) ≡ callOutcome threeRates t r (stopFilter number)
+        stopped n ys y =
+            moves r f threeRates t (stopFilter number) _ 0 0 [] _
+            (stop-done threeRates t (openOf r) number (held-here true (is-taken (take 270 (drop 10 r)) part-lent i (omega arith) (λ e. n (here ∙ e)))))
+            (filters-part r f .becomes ys (set (openOf r .filters) i none) (moved ys i none y))
+
+    pub all-cleared : (ys : List ℕ) → ys ≡ zeros 270 → gives 0 0 [] (putMid 10 270 r ys) ≡ callOutcome threeRates t r (clear 4)
+    all-cleared ys e =
+        moves r f threeRates t (clear 4) _ 0 0 [] _ (clear-done threeRates t (openOf r)) (filters-part r f .becomes ys noneYet (e ∙ cleared (fl (openOf r))))
