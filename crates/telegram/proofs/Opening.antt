@@ -1,7 +1,7 @@
 -- The round trips of an opening telegram, kind by kind. Assumes nothing.
 use Prim.Native.Nat.{ℕ, suc, _+_, _*_, _/_, _%_, _≤_, _<_}
 use mathlib.Core.Path.{_≡_, refl, sym, ap, _∙_, subst}
-use mathlib.Core.Bool.{Bool, true, false, _&&_}
+use mathlib.Core.Bool.{Bool, true, false, _&&_, and-false}
 use mathlib.Core.Option.{Option, none, some, Option·none-ne-some}
 use mathlib.Core.List.{List, [], _∷_}
 use native.Mathlib.Omega.{arith}
@@ -27,7 +27,7 @@ Headed id b = (isOpeningId id ≡ true) × (length b ≡ 7) × (isDestination (g
 
 -- an identifier is its two bytes
 two-bytes : (b : List ℕ) (at : ℕ) → areBytes b ≡ true → (idAt b at % 256 ≡ getD b at 0) × (idAt b at / 256 ≡ getD b (at + 1) 0)
-unfolding idAt isByte
+unfolding idAt
 two-bytes b at bytes =
     let low : getD b at 0 ≤ 255 = leb-true _ _ (byte-at b at bytes) in
     (omega arith, omega arith)
@@ -71,14 +71,29 @@ opening-again id b o bytes e =
     opening-kind id b bytes (p .0, eqb-true _ _ (r .0), r .1) e)
     (λ q e. absurd (Option·none-ne-some _ e)) e
 
+-- the second byte decides
+module _ (b : List ℕ) where
+  pub kind-set-up : getD b 1 0 ≡ 0xC0
+      → openingOf b ≡ onlyIf ((eqb (getD b 2 0) 0x00 && eqb (getD b 3 0) 0x10) && (isId (idAt b 4) && isApplication (getD b 6 0))) (setUp (getD b 0 0) (idAt b 4) (getD b 6 0))
+  unfolding openingOf
+  kind-set-up q = rw (eq-eqb (getD b 1 0) 0xC0 q)
+
+  pub kind-positive : getD b 1 0 ≡ 0xD0
+      → openingOf b ≡ onlyIf (isId (idAt b 2) && (isId (idAt b 4) && isApplication (getD b 6 0))) (positive (getD b 0 0) (idAt b 2) (idAt b 4) (getD b 6 0))
+  unfolding openingOf
+  kind-positive q = rw (ne-eqb (getD b 1 0) 0xC0 (λ e. omega arith), eq-eqb (getD b 1 0) 0xD0 q)
+
+  pub kind-negative : (getD b 1 0 ≡ 0xC0 → ⊥) → (getD b 1 0 ≡ 0xD0 → ⊥)
+      → openingOf b ≡ onlyIf (isNegative (getD b 1 0)) (negative (getD b 0 0) (getD b 1 0) (drop 2 b))
+  unfolding openingOf
+  kind-negative p q = rw (ne-eqb (getD b 1 0) 0xC0 p, ne-eqb (getD b 1 0) 0xD0 q)
+
 -- an identifier of 11 bits: its bytes are bytes, and make it up again
 module _ (id : ℕ) (fits : isId id ≡ true) where
   low-byte : isByte (id % 256) ≡ true
-  unfolding isByte
   low-byte = le-leb (id % 256) 0xFF (omega arith)
 
   high-byte : isByte (id / 256) ≡ true
-  unfolding isByte isId
   high-byte = let h : id ≤ 0x7FF = leb-true _ _ fits in le-leb (id / 256) 0xFF (omega arith)
 
 made-up : (id : ℕ) → id % 256 + 256 * (id / 256) ≡ id
@@ -86,38 +101,43 @@ made-up id = omega arith
 
 -- a negative reply's kind is a byte, and neither of the other two
 negative-between : (kind : ℕ) → isNegative kind ≡ true → (0xD6 ≤ kind) × (kind ≤ 0xD8)
-unfolding isNegative within
 negative-between kind e = let h = both {a = leb 0xD6 kind} e in (leb-true _ _ (h .0), leb-true _ _ (h .1))
 
 -- a destination and an application are bytes
 destination-byte : (d : ℕ) → isDestination d ≡ true → isByte d ≡ true
-unfolding isDestination isByte
 destination-byte d e = let h : d ≤ 0xEF = leb-true _ _ e in le-leb d 0xFF (omega arith)
 
 one-of : (a k : ℕ) → isByte k ≡ true → eqb a k ≡ true → isByte a ≡ true
 one-of a k h e = rw (eqb-true a k e) h
 
 application-byte : (a : ℕ) → isApplication a ≡ true → isByte a ≡ true
-unfolding isApplication isByte
 application-byte a e =
     either {a = eqb a 0x01} (one-of a 0x01 refl)
     (λ e. either {a = eqb a 0x10} (one-of a 0x10 refl)
     (λ e. either {a = eqb a 0x20} (one-of a 0x20 refl) (one-of a 0x21 refl) e) e) e
 
--- the shared test, where it holds
-headed : (id : ℕ) (b : List ℕ) → Headed id b → readOpening id b ≡ openingOf b
+-- the shared test, where it holds and where it fails
+pub headed : (id : ℕ) (b : List ℕ) → isOpeningId id && isDestination (getD b 0 0) ≡ true → length b ≡ 7 → readOpening id b ≡ openingOf b
 unfolding readOpening
-headed id b h = rw (together (h .0) (together (eq-eqb _ _ (h .1)) (h .2)))
+headed id b h l = let p = both {a = isOpeningId id} h in rw (together (p .0) (together (eq-eqb _ _ l) (p .1)))
+
+pub unheaded : (id : ℕ) (b : List ℕ) → isOpeningId id && isDestination (getD b 0 0) ≡ false → length b ≡ 7 → readOpening id b ≡ none
+unfolding readOpening
+unheaded id b h l = rw (eq-eqb (length b) 7 l, h)
+
+pub other-length : (id : ℕ) (b : List ℕ) → (length b ≡ 7 → ⊥) → readOpening id b ≡ none
+unfolding readOpening
+other-length id b l = rw (ne-eqb (length b) 7 l, and-false)
 
 -- whatever fits lies in bytes, and is read again
 pub opening-back : (id : ℕ) (o : Opening) → openingFits id o ≡ true → Returns id o
-unfolding openingFits fieldsFit openingBytes openingOf idAt areBytes isByte
+unfolding openingFits fieldsFit openingBytes openingOf idAt areBytes
 opening-back id (setUp d rx app) e =
     let p = both {a = isOpeningId id} e in
     let q = both {a = isDestination d} (p .1) in
     let r = both {a = isId rx} (q .1) in (
       together (destination-byte d (q .0)) (together (low-byte rx (r .0)) (together (high-byte rx (r .0)) (together (application-byte app (r .1)) refl))),
-      headed id _ (p .0, refl, q .0) ∙ rw (made-up rx) (let-through _ _ (q .1)),
+      headed id _ (together (p .0) (q .0)) refl ∙ rw (made-up rx) (let-through _ _ (q .1)),
     )
 opening-back id (positive d tx rx app) e =
     let p = both {a = isOpeningId id} e in
@@ -127,7 +147,7 @@ opening-back id (positive d tx rx app) e =
       together (destination-byte d (q .0))
           (together (low-byte tx (r .0)) (together (high-byte tx (r .0))
           (together (low-byte rx (s .0)) (together (high-byte rx (s .0)) (together (application-byte app (s .1)) refl))))),
-      headed id _ (p .0, refl, q .0) ∙ rw (made-up tx, made-up rx) (let-through _ _ (q .1)),
+      headed id _ (together (p .0) (q .0)) refl ∙ rw (made-up tx, made-up rx) (let-through _ _ (q .1)),
     )
 opening-back id (negative d kind rest) e =
     let p = both {a = isOpeningId id} e in
@@ -136,5 +156,5 @@ opening-back id (negative d kind rest) e =
     let s = both {a = eqb (length rest) 5} (r .1) in
     let k = negative-between kind (r .0) in (
       together (destination-byte d (q .0)) (together (le-leb kind 0xFF (omega arith)) (s .1)),
-      headed id _ (p .0, ap (λ (n : ℕ). suc (suc n)) (eqb-true _ _ (s .0)), q .0) ∙ rw (ne-eqb kind 0xC0 (λ q. omega arith), ne-eqb kind 0xD0 (λ q. omega arith)) (let-through _ _ (r .0)),
+      headed id _ (together (p .0) (q .0)) (ap (λ (n : ℕ). suc (suc n)) (eqb-true _ _ (s .0))) ∙ rw (ne-eqb kind 0xC0 (λ q. omega arith), ne-eqb kind 0xD0 (λ q. omega arith)) (let-through _ _ (r .0)),
     )

@@ -17,23 +17,23 @@ pub data Opening : Type 0 where
   negative : (destination kind : ℕ) (rest : List ℕ) → Opening
 
 -- the identifiers that carry an opening telegram
-unfoldable pub isOpeningId : ℕ → Bool
+abbrev pub isOpeningId : ℕ → Bool
 isOpeningId id = within 0x200 0x2EF id
 
 -- the destinations of one module; those above are broadcasts
-unfoldable pub isDestination : ℕ → Bool
+abbrev pub isDestination : ℕ → Bool
 isDestination d = leb d 0xEF
 
 -- an identifier of 11 bits: a low byte and a high one of 0 to 7
-unfoldable pub isId : ℕ → Bool
+abbrev pub isId : ℕ → Bool
 isId id = leb id 0x7FF
 
 -- diagnostics, infotainment, application protocol, WFS/WIV
-unfoldable pub isApplication : ℕ → Bool
+abbrev pub isApplication : ℕ → Bool
 isApplication a = eqb a 0x01 || (eqb a 0x10 || (eqb a 0x20 || eqb a 0x21))
 
 -- the three negative replies
-unfoldable pub isNegative : ℕ → Bool
+abbrev pub isNegative : ℕ → Bool
 isNegative kind = within 0xD6 0xD8 kind
 
 -- what each field may be

@@ -1,0 +1,3 @@
+pub mod CopyLoop
+pub mod Answers
+pub mod Writes
