@@ -19,7 +19,7 @@ use Rattle.codec.proofs.Many.{many-make}
 use Rattle.codec.proofs.Columns.{beside-count}
 use Rattle.codec.proofs.Cells.{all-here, Cell, cell-at, cell-first, cell-next, cell-last, Stored, as-it-was, entry-is, entry-byte, entry-stored, byte-stored, each-ok, each-put, place-set}
 use Rattle.machine.specs.Message.{takes}
-use Rattle.machine.specs.Filter.{Slots, Filter, taken, passed, blocked, passes}
+use Rattle.machine.specs.Filter.{Slots, Filter, taken, hits, passes}
 use Rattle.machine.proofs.Slots.{any-empty}
 use Rattle.layout.specs.Record.{row}
 use Rattle.layout.specs.Memory.{FilterRow, filterParts, filterBack, filterFits, filterColumns, filters}
@@ -188,15 +188,15 @@ module _ (m : List ℕ) (v : FilterPart m) where
 
   -- with ten types 0 no frame is let in
   pub none-held : allZero (take 10 m) ≡ true → (flags : ℕ) (wide : Bool) (bytes : List ℕ) → false ≡ passes (filters flags .get m) wide bytes
-  unfolding passes passed
+  unfolding passes hits
   none-held z flags wide bytes =
       let ten : length (take 10 m) ≡ 10 = length-take-le 10 m (omega (arith, v .long)) in
       let t : T (allZero (take 10 m)) = true-T (allZero (take 10 m)) z in
       let zero-at : (i : ℕ) → i < 10 → getD m i 0 ≡ 0 =
       λ i h. sym (getD-take 10 m i 0 h) ∙ sym (eqb→eq 0 (getD (take 10 m) i 0) (all-here (eqb 0) (take 10 m) i 0 t (omega arith))) in
-      let e : passed (filters flags .get m) wide bytes ≡ false =
+      let e : hits false (filters flags .get m) wide bytes ≡ false =
       any-empty _ (filters flags .get m) (λ i h. let k : i < 10 = omega (arith, ten-held flags) in is-empty i k (zero-at i k) flags) in
-      sym (ap (λ (b : Bool). b && not (blocked (filters flags .get m) wide bytes)) e)
+      sym (ap (λ (b : Bool). b && not (hits true (filters flags .get m) wide bytes)) e)
 
 -- ---- what is stored
 

@@ -14,7 +14,7 @@ use lib.Dec.{eqb}
 use lib.Bits.{bitAnd}
 use borrow.Author.Tests.{eq-eqb, ne-eqb}
 use Rattle.codec.specs.Plain.{if_then_else_, allBelow}
-use Rattle.machine.specs.Filter.{Slots, Filter, anySlot, matches, passed, blocked, passes}
+use Rattle.machine.specs.Filter.{Slots, Filter, anySlot, matches, hits, passes}
 use Rattle.machine.proofs.Slots.{any-none, any-some, any-end}
 use Rattle.filters.specs.Part.{listed, filterAt, filtersIn}
 use Rattle.filters.proofs.Fill.{listed-long, listed-at}
@@ -35,18 +35,18 @@ module _ (p : ℕ → Bool) where
 
 module _ (fs : Slots Filter) (ten : length fs ≡ 10) (wide : Bool) (bytes : List ℕ) where
   abbrev Pass : Filter → Bool
-  Pass x = not (x .block) && matches wide bytes x
+  Pass x = Bool·beq (x .block) false && matches wide bytes x
 
   abbrev Block : Filter → Bool
-  Block x = x .block && matches wide bytes x
+  Block x = Bool·beq (x .block) true && matches wide bytes x
 
   pub record Seen (f : ℕ) (p : Bool) : Type 0 where
     pub low : f ≤ 10
-    pub passing : passed fs wide bytes ≡ (p || anySlot Pass (drop f fs))
-    pub blocking : blocked fs wide bytes ≡ anySlot Block (drop f fs)
+    pub passing : hits false fs wide bytes ≡ (p || anySlot Pass (drop f fs))
+    pub blocking : hits true fs wide bytes ≡ anySlot Block (drop f fs)
 
   pub seen-none : Seen 0 false
-  unfolding passed blocked
+  unfolding hits
   seen-none = record { low = omega arith; passing = refl; blocking = refl }
 
   module _ (f : ℕ) (p : Bool) (s : Seen f p) (h : f < 10) where
@@ -63,8 +63,8 @@ module _ (fs : Slots Filter) (ten : length fs ≡ 10) (wide : Bool) (bytes : Lis
 
     pub seen-missed : (x : Filter) → getD fs f none ≡ some x → matches wide bytes x ≡ false → Seen (f + 1) p
     seen-missed x e m =
-        let one : Pass x ≡ false = ap (λ (b : Bool). not (x .block) && b) m ∙ and-false (not (x .block)) in
-        let two : Block x ≡ false = ap (λ (b : Bool). x .block && b) m ∙ and-false (x .block) in
+        let one : Pass x ≡ false = ap (λ (b : Bool). Bool·beq (x .block) false && b) m ∙ and-false (Bool·beq (x .block) false) in
+        let two : Block x ≡ false = ap (λ (b : Bool). Bool·beq (x .block) true && b) m ∙ and-false (Bool·beq (x .block) true) in
         record {
           low = omega arith;
           passing = s .passing ∙ ap (λ (b : Bool). p || b) (any-some fs f Pass x here e ∙ ap (λ (b : Bool). b || anySlot Pass (drop (f + 1) fs)) one);
@@ -73,8 +73,8 @@ module _ (fs : Slots Filter) (ten : length fs ≡ 10) (wide : Bool) (bytes : Lis
 
     pub seen-passed : (x : Filter) → getD fs f none ≡ some x → matches wide bytes x ≡ true → x .block ≡ false → Seen (f + 1) true
     seen-passed x e m k =
-        let one : Pass x ≡ true = ap₂ (λ (a b : Bool). not a && b) k m in
-        let two : Block x ≡ false = ap (λ (b : Bool). b && matches wide bytes x) k in
+        let one : Pass x ≡ true = ap₂ (λ (a b : Bool). Bool·beq a false && b) k m in
+        let two : Block x ≡ false = ap (λ (b : Bool). Bool·beq b true && matches wide bytes x) k in
         record {
           low = omega arith;
           passing = s .passing ∙ ap (λ (b : Bool). p || b) (any-some fs f Pass x here e ∙ ap (λ (b : Bool). b || anySlot Pass (drop (f + 1) fs)) one) ∙ or-true p;
@@ -84,16 +84,16 @@ module _ (fs : Slots Filter) (ten : length fs ≡ 10) (wide : Bool) (bytes : Lis
     pub seen-blocked : (x : Filter) → getD fs f none ≡ some x → matches wide bytes x ≡ true → x .block ≡ true → false ≡ passes fs wide bytes
     unfolding passes
     seen-blocked x e m k =
-        let two : Block x ≡ true = ap₂ (λ (a b : Bool). a && b) k m in
-        let all : blocked fs wide bytes ≡ true = s .blocking ∙ any-some fs f Block x here e ∙ ap (λ (b : Bool). b || anySlot Block (drop (f + 1) fs)) two in
-        sym (ap (λ (b : Bool). passed fs wide bytes && not b) all ∙ and-false (passed fs wide bytes))
+        let two : Block x ≡ true = ap₂ (λ (a b : Bool). Bool·beq a true && b) k m in
+        let all : hits true fs wide bytes ≡ true = s .blocking ∙ any-some fs f Block x here e ∙ ap (λ (b : Bool). b || anySlot Block (drop (f + 1) fs)) two in
+        sym (ap (λ (b : Bool). hits false fs wide bytes && not b) all ∙ and-false (hits false fs wide bytes))
 
   pub seen-all : (f : ℕ) (p : Bool) → Seen f p → 10 ≤ f → p ≡ passes fs wide bytes
   unfolding passes
   seen-all f p s h =
       let end : length fs ≤ f = omega arith in
-      let a : passed fs wide bytes ≡ p = s .passing ∙ ap (λ (b : Bool). p || b) (any-end fs f Pass end) ∙ or-false p in
-      let b : blocked fs wide bytes ≡ false = s .blocking ∙ any-end fs f Block end in
+      let a : hits false fs wide bytes ≡ p = s .passing ∙ ap (λ (b : Bool). p || b) (any-end fs f Pass end) ∙ or-false p in
+      let b : hits true fs wide bytes ≡ false = s .blocking ∙ any-end fs f Block end in
       sym (ap₂ (λ (x y : Bool). x && not y) a b ∙ and-true p)
 
 -- ---- the ten filters of their columns

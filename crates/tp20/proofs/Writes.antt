@@ -66,4 +66,3 @@ module _ (head rest buffer xs ys : List ℕ) (first : xs ≡ over head buffer) (
   over-both =
       rw (put-head, put-rest, drop-of-length-le (drop (length head) xs) whole, append-nil, length-append head rest)
       (sym (append-assoc head rest _))
-
