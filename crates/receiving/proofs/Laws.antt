@@ -1,0 +1,199 @@
+-- The region of an open channel when a record arrives, when records are read, and when the queue is cleared: its bytes, and the machine's answers.
+-- Assumes nothing.
+use mathlib.Core.Path.{_≡_, refl, sym, ap, ap₂, _∙_, subst}
+use Prim.Native.Nat.{ℕ, _+_, _*_, _-_, _≤_, _<_, min}
+use native.Mathlib.Omega.{arith}
+use mathlib.Core.Bool.{Bool, true, false}
+use mathlib.Core.List.{List, [], _∷_, _++_}
+use lib.ListN.{length, getD, set, take, drop, length-set, length-drop}
+use lib.Seq.{drop-length, length-take-le}
+use lib.Dec.{T, eqb, ltb}
+use borrow.Rule.Slice.PartMut.{putMid, midOf, set-mid-at}
+use borrow.Author.Tests.{eq-eqb, ne-eqb, lt-ltb, le-ltb, ltb-true, ltb-false}
+use Rattle.codec.specs.Plain.{if_then_else_, zeros}
+use Rattle.codec.specs.Code.{markOf}
+use Rattle.machine.specs.Codes.{codeOf}
+use Rattle.machine.specs.Message.{Rec, shownAll}
+use Rattle.machine.specs.Channel.{Chan, opened, Open, Receiving, withReceiving, read, says, arrive, onOpen, onRead, reading, readCode, shorter, unless}
+use Rattle.layout.specs.Record.{rec36}
+use Rattle.layout.specs.Memory.{receivingPart, region}
+use Rattle.layout.specs.Promise.{Opened, gives, callOutcome}
+use Rattle.layout.proofs.Memory.{receiving-lawful}
+use Rattle.layout.proofs.Sizes.{receiving-size}
+use Rattle.layout.proofs.Region.{openOf, Part, byte-of, is-open, moves, stays, receiving-part}
+use Rattle.receiving.specs.Queue.{arrived, emptied, withoutOldest, roomAt, roomMade}
+use Rattle.receiving.proofs.Bytes.{part-of-part, few, count-is, lost-is, one-more, one-lost, oldest-out, oldest-gone}
+
+-- ---- a receiving part by itself
+
+module _ (flags : ℕ) (q : List ℕ) (long : length q ≡ 1154) (v : T (receivingPart flags .valid q)) where
+  abbrev part-of : Receiving
+  part-of = receivingPart flags .get q
+
+  part-ok : T (receivingPart flags .ok part-of)
+  part-ok = receiving-lawful flags .ok-get q (long ∙ sym (receiving-size flags)) v
+
+  part-put : receivingPart flags .put part-of ≡ q
+  part-put = receiving-lawful flags .put-get q (long ∙ sym (receiving-size flags)) v
+
+  count : getD q 0 0 ≡ length (part-of .queue)
+  count = ap (λ (m : List ℕ). getD m 0 0) (sym part-put) ∙ count-is flags part-of part-ok
+
+  -- what `drop_oldest` leaves
+  pub left-behind : (m : ℕ) (ys : List ℕ) → m ≤ getD q 0 0 → ys ≡ drop (m * 36) (take (1 + getD q 0 0 * 36 - 1) (drop 1 q)) ++ zeros (m * 36)
+      → set (set (putMid 1 (1 + getD q 0 0 * 36 - 1) q ys) 0 (getD q 0 0 - m)) 1153 0 ≡ receivingPart flags .put (withoutOldest m part-of)
+  unfolding withoutOldest
+  left-behind m ys h e =
+      let k : 1 + getD q 0 0 * 36 - 1 ≡ length (part-of .queue) * 36 = omega (arith, count) in
+      (λ i. set (set (putMid 1 (k i) (sym part-put i) ys) 0 (count i - m)) 1153 0)
+      ∙ oldest-gone flags part-of part-ok m ys (omega (arith, count)) (e ∙ ap₂ (λ (j : ℕ) (b : List ℕ). drop (m * 36) (take j (drop 1 b)) ++ zeros (m * 36)) k (sym part-put))
+
+-- ---- on the region of an open channel
+
+module _ (r : List ℕ) (f : Opened r) where
+  abbrev o : Open
+  o = openOf r
+
+  abbrev fl : ℕ
+  fl = o .config .flags
+
+  abbrev q : List ℕ
+  q = take 1154 (drop 1344 r)
+
+  abbrev xs : List Rec
+  xs = o .receiving .queue
+
+  part : Part r (receivingPart fl) 1344 1154 (o .receiving) (λ x. withReceiving o (x .queue) (x .lost))
+  part = receiving-part r f
+
+  fine : T (receivingPart fl .ok (o .receiving))
+  fine = subst (λ (x : Receiving). T (receivingPart fl .ok x)) (part .got) (part-ok fl q (part .long) (part .valid))
+
+  -- the count and the lost mark, in the region and in the part
+  held : getD r 1344 0 ≡ length xs
+  held = byte-of part 0 (omega arith) ∙ count-is fl (o .receiving) fine
+
+  held-few : getD r 1344 0 ≤ 32
+  held-few = omega (arith, held, few fl (o .receiving) fine)
+
+  -- ---- a record arrives
+
+  is-arrived : (y : Rec) → arrived y (region .get r) ≡ arrive o y
+  unfolding arrived
+  is-arrived y = ap (arrived y) (is-open r f)
+
+  is-free : (roomAt r ≡ 0 → ⊥) → ltb (getD r 1344 0) 32 ≡ true
+  unfolding roomAt
+  is-free n = go (ltb (getD r 1344 0) 32) refl n
+    where
+      go : (b : Bool) → ltb (getD r 1344 0) 32 ≡ b → ((if b then 1345 + getD r 1344 0 * 36 else 0) ≡ 0 → ⊥) → ltb (getD r 1344 0) 32 ≡ true
+      go true e n = e
+      go false e n = absurd (n refl)
+
+  is-full : roomAt r ≡ 0 → ltb (getD r 1344 0) 32 ≡ false
+  unfolding roomAt
+  is-full z = go (ltb (getD r 1344 0) 32) refl z
+    where
+      go : (b : Bool) → ltb (getD r 1344 0) 32 ≡ b → (if b then 1345 + getD r 1344 0 * 36 else 0) ≡ 0 → ltb (getD r 1344 0) 32 ≡ false
+      go true e z = absurd (omega arith)
+      go false e z = e
+
+  place-is : (roomAt r ≡ 0 → ⊥) → roomAt r ≡ 1344 + (1 + getD r 1344 0 * 36)
+  unfolding roomAt
+  place-is n = rw (is-free n) (omega arith)
+
+  full : (y : Rec) → roomAt r ≡ 0 → roomMade r ≡ region .put (arrived y (region .get r))
+  unfolding roomMade arrive
+  full y z =
+      let b = is-full z in
+      rw b
+      (sym (set-mid-at 1344 1154 1153 r 1 (omega (arith, part .long)))
+      ∙ part .becomes (set q 1153 1) (record { queue = xs; lost = true }) (ap (λ (m : List ℕ). set m 1153 1) (part .is) ∙ one-lost fl (o .receiving) fine)
+      ∙ ap (region .put) (sym (is-arrived y ∙ rw (ap (λ (k : ℕ). ltb k 32) (sym held) ∙ b) refl)))
+
+  room : (y : Rec) (ys : List ℕ) → (roomAt r ≡ 0 → ⊥) → ys ≡ rec36 .put y → length ys ≡ 36 → putMid (roomAt r) 36 (roomMade r) ys ≡ region .put (arrived y (region .get r))
+  unfolding roomMade arrive
+  room y ys n e l =
+      let b = is-free n in
+      let small : length xs < 32 = omega (arith, held, ltb-true (getD r 1344 0) 32 b) in
+      let more : List ℕ = set q 0 (getD r 1344 0 + 1) in
+      let put : putMid (1 + getD r 1344 0 * 36) 36 more ys ≡ receivingPart fl .put (record { queue = xs ++ y ∷ []; lost = o .receiving .lost }) =
+      (λ i. putMid (1 + held i * 36) 36 (set (part .is i) 0 (held i + 1)) ys) ∙ one-more fl (o .receiving) fine y ys small e l in
+      rw b
+      (ap₂ (λ (a : ℕ) (s : List ℕ). putMid a 36 s ys) (place-is n) (sym (set-mid-at 1344 1154 0 r (getD r 1344 0 + 1) (omega (arith, part .long))))
+      ∙ part-of-part 1344 1154 (1 + getD r 1344 0 * 36) 36 r more ys (omega (arith, f .long)) (length-set q 0 (getD r 1344 0 + 1) ∙ part .long) (omega (arith, held))
+      ∙ part .becomes (putMid (1 + getD r 1344 0 * 36) 36 more ys) (record { queue = xs ++ y ∷ []; lost = o .receiving .lost }) put
+      ∙ ap (region .put) (sym (is-arrived y ∙ rw (lt-ltb (length xs) 32 small) refl)))
+
+  -- with what `make_room` says and leaves
+  module _ (at : ℕ) (r′ : List ℕ) (made : (at ≡ roomAt r) × (r′ ≡ roomMade r)) where
+    pub room-ends : (at ≡ 0 → ⊥) → at + 36 ≤ length r
+    room-ends n =
+        let a = made .0 in
+        let m : roomAt r ≡ 0 → ⊥ = λ z. n (a ∙ z) in
+        omega (arith, f .long, place-is m, ltb-true (getD r 1344 0) 32 (is-free m))
+
+    pub is-lost : (y : Rec) → at ≡ 0 → r′ ≡ region .put (arrived y (region .get r))
+    is-lost y z = made .1 ∙ full y (sym (made .0) ∙ z)
+
+    pub is-last : (y : Rec) (ys : List ℕ) → (at ≡ 0 → ⊥) → length r′ ≡ length r → ys ≡ rec36 .put y → length ys ≡ length (midOf at (at + 36 - at) r′) → putMid at (at + 36 - at) r′ ys ≡ region .put (arrived y (region .get r))
+    is-last y ys n s e l =
+        let k : at + 36 - at ≡ 36 = omega arith in
+        let long : length ys ≡ 36 = l ∙ length-take-le (at + 36 - at) (drop at r′) (omega (arith, length-drop at r′, room-ends n)) ∙ k in
+        (λ i. putMid (made .0 i) (k i) (made .1 i) ys) ∙ room y ys (λ z. n (made .0 ∙ z)) e long
+
+  -- ---- read
+
+  in-part : (i : ℕ) → i < 1154 → getD q i 0 ≡ getD (receivingPart fl .put (o .receiving)) i 0
+  in-part i h = ap (λ (m : List ℕ). getD m i 0) (part .is)
+
+  pub part-held : getD q 0 0 ≡ length xs
+  part-held = in-part 0 (omega arith) ∙ count-is fl (o .receiving) fine
+
+  -- what `drop_oldest` asks
+  pub part-lent : (m : ℕ) → m ≤ getD q 0 0 → (length q ≡ 1154) × (m ≤ getD q 0 0) × (getD q 0 0 ≤ 32)
+  part-lent m h = (part .long, h, omega (arith, part-held, few fl (o .receiving) fine))
+
+  mark-back : (b : Bool) → eqb 1 (markOf b) ≡ b
+  mark-back true = refl
+  mark-back false = refl
+
+  part-lost : eqb 1 (getD q 1153 0) ≡ o .receiving .lost
+  part-lost = ap (eqb 1) (in-part 1153 (omega arith) ∙ lost-is fl (o .receiving) fine) ∙ mark-back (o .receiving .lost)
+
+  -- the region without the m oldest
+  without : (m : ℕ) (ys : List ℕ) → ys ≡ receivingPart fl .put (withoutOldest m (receivingPart fl .get q)) → putMid 1344 1154 r ys ≡ region .put (withReceiving o (drop m xs) false)
+  unfolding withoutOldest
+  without m ys e = part .becomes ys (record { queue = drop m xs; lost = false }) (e ∙ ap (λ (x : Receiving). receivingPart fl .put (record { queue = drop m (x .queue); lost = false })) (part .got))
+
+  module _ (rates : List ℕ) (now n : ℕ) (b : List ℕ) where
+    pub read-short : length b < 36 * n → gives 0x04 0 b r ≡ callOutcome rates now r (read n b)
+    unfolding onOpen onRead unless codeOf shorter
+    read-short s = stays r f rates now (read n b) 0x04 0 b (rw (lt-ltb (length b) (36 * n) s) refl)
+
+    pub read-none : 36 * n ≤ length b → n ≡ 0 → gives 0x00 0 b r ≡ callOutcome rates now r (read n b)
+    unfolding onOpen onRead unless codeOf shorter
+    read-none s z = stays r f rates now (read n b) 0x00 0 b (rw (le-ltb (length b) (36 * n) s) (rw (eq-eqb n 0 z) refl))
+
+    pub read-some : 36 * n ≤ length b → (n ≡ 0 → ⊥) → (m code : ℕ) (bs ys : List ℕ) → m ≡ min n (getD q 0 0) → code ≡ readCode (eqb 1 (getD q 1153 0)) n m → bs ≡ take (1 + m * 36 - 1) (drop 1 q)
+        → ys ≡ receivingPart fl .put (withoutOldest m (receivingPart fl .get q)) → gives code m (bs ++ drop (m * 36 - 0) b) (putMid 1344 1154 r ys) ≡ callOutcome rates now r (read n b)
+    unfolding onOpen onRead unless codeOf shorter reading
+    read-some s z m code bs ys em ec eb ey =
+        let m′ : m ≡ min n (length xs) = em ∙ ap (min n) part-held in
+        let c′ : code ≡ readCode (o .receiving .lost) n m = ec ∙ ap (λ (l : Bool). readCode l n m) part-lost in
+        let j′ : 1 + m * 36 - 1 ≡ m * 36 = omega arith in
+        let k′ : m * 36 - 0 ≡ 36 * m = omega arith in
+        let given : bs ≡ shownAll (take m xs) =
+        eb ∙ ap₂ (λ (j : ℕ) (x : List ℕ). take j (drop 1 x)) j′ (part .is) ∙ oldest-out fl (o .receiving) fine m (omega arith) in
+        (λ i. gives (c′ i) m (given i ++ drop (k′ i) b) (putMid 1344 1154 r ys))
+        ∙ moves r f rates now (read n b) (withReceiving o (drop m xs) false) (readCode (o .receiving .lost) n m) m (shownAll (take m xs) ++ drop (36 * m) b) (putMid 1344 1154 r ys)
+        (rw (le-ltb (length b) (36 * n) s) (rw (ne-eqb n 0 z) (rw (sym m′) refl))) (without m ys ey)
+
+  -- ---- clear
+
+  pub cleared : (m : ℕ) (ys : List ℕ) → m ≡ getD q 0 0 → ys ≡ receivingPart fl .put (withoutOldest m (receivingPart fl .get q)) → putMid 1344 1154 r ys ≡ region .put (emptied (region .get r))
+  unfolding emptied
+  cleared m ys e ey =
+      without m ys ey
+      ∙ ap (λ (x : List Rec). region .put (withReceiving o x false)) (ap (λ (k : ℕ). drop k xs) (e ∙ part-held) ∙ drop-length xs)
+      ∙ ap (λ (c : Chan). region .put (emptied c)) (sym (is-open r f))

@@ -1,0 +1,132 @@
+// What is received: a record more in the queue of an open channel, or the lost mark; reading; clearing. The receiving part of a region is its last
+// 1,154 bytes: the count, 32 cells of 36 bytes, the lost mark.
+use codes::Answer;
+ghost use mathlib.Core.Path.{_≡_};
+ghost use mathlib.Core.List.{_++_};
+ghost use Prim.Native.Nat.{ℕ, min, _+_, _≤_};
+ghost use lib.Dec.{T, eqb};
+ghost use lib.ListN.{length, getD};
+ghost use Rattle.machine.specs.Codes.{threeRates};
+ghost use Rattle.machine.specs.Message.{widthFlag, idBytes, received};
+ghost use Rattle.machine.specs.Channel.{readCode};
+ghost use Rattle.machine.specs.Channel.{read as readOf};
+ghost use Rattle.layout.specs.Record.{rec36};
+ghost use Rattle.layout.specs.Memory.{receivingPart, region};
+ghost use Rattle.layout.specs.Promise.{Opened, gives, callOutcome};
+ghost use Rattle.message.specs.Cell.{Outgoing};
+ghost use Rattle.receiving.specs.Queue.{arrived, emptied, withoutOldest, roomAt, roomMade};
+
+// Raises the count and says where the new record begins. Where 32 are held, sets the lost mark and says 0.
+fn make_room(r: &mut [u8]) -> usize
+    requires { ⌜ length (now r) ≡ 2498 ⌝ }
+    ensures { λ a. ⌜ (a ≡ roomAt (now (r .entry))) × (now (r .exit) ≡ roomMade (now (r .entry))) ⌝ }
+{
+    let held = r[1344];
+    if held < 32 {
+        r[1344] = held + 1;
+        return 1345 + held as usize * 36;
+    }
+    r[2497] = 1;
+    0
+}
+
+// A frame that width and filters let in, received at a clock: its record is the last, or is lost.
+pub fn receive(r: &mut [u8], clock: u32, wide: bool, id: u32, bytes: &[u8])
+    requires { ⌜ Opened (now r) × (length (now bytes) ≤ 8) ⌝ }
+    ensures { λ u. ⌜ now (r .exit) ≡ region .put (arrived (received clock (widthFlag wide) (idBytes id ++ now (bytes .entry))) (region .get (now (r .entry)))) ⌝ }
+{
+    let at = make_room(r);
+    if at == 0 {
+        return;
+    }
+    let end = at + 36;
+    message::put_received(&mut r[at..end], clock, wide, id, bytes);
+}
+
+// A record that was sent, 36 bytes: as if received at a clock but with RxStatus bit 0 set, it is the last, or is lost.
+pub fn echo(r: &mut [u8], clock: u32, sent: &[u8])
+    requires { ⌜ Opened (now r) × Outgoing (now sent) ⌝ }
+    ensures { λ u. ⌜ now (r .exit) ≡ region .put (arrived (received clock (rec36 .get (now (sent .entry)) .tx + 1) (rec36 .get (now (sent .entry)) .bytes)) (region .get (now (r .entry)))) ⌝ }
+{
+    let at = make_room(r);
+    if at == 0 {
+        return;
+    }
+    let end = at + 36;
+    message::put_echo(&mut r[at..end], clock, sent);
+}
+
+// The m oldest records of a receiving part go: the others move to the front, zeros behind them. The lost mark is cleared.
+fn drop_oldest(q: &mut [u8], m: usize)
+    requires { ⌜ (length (now q) ≡ 1154) × (m ≤ getD (now q) 0 0) × (getD (now q) 0 0 ≤ 32) ⌝ }
+    ensures { λ u. ⌜ ((flags : ℕ) → T (receivingPart flags .valid (now (q .entry))) → now (q .exit) ≡ receivingPart flags .put (withoutOldest m (receivingPart flags .get (now (q .entry))))) ⌝ }
+{
+    let held = q[0];
+    let end = 1 + held as usize * 36;
+    octets::move_down(&mut q[1..end], m * 36);
+    q[0] = held - m as u8;
+    q[1153] = 0;
+}
+
+// The smaller of two numbers.
+fn fewest(a: u32, b: u32) -> u32
+    ensures { λ r. ⌜ r ≡ min a b ⌝ }
+{
+    if a < b { a } else { b }
+}
+
+// The code of a read that was asked for n records and gave m.
+fn read_code(lost: u8, n: u32, m: u32) -> u32
+    ensures { λ r. ⌜ r ≡ readCode (eqb 1 lost) n m ⌝ }
+{
+    if 1 == lost {
+        return codes::ERR_BUFFER_OVERFLOW;
+    }
+    if m == n {
+        return codes::STATUS_NOERROR;
+    }
+    if m == 0 {
+        return codes::ERR_BUFFER_EMPTY;
+    }
+    codes::ERR_TIMEOUT
+}
+
+// Read n records into a buffer, on the region of an open channel.
+pub fn read_in(r: &mut [u8], n: u32, buf: &mut [u8]) -> Answer
+    requires { ⌜ Opened (now r) ⌝ }
+    ensures { λ a. ⌜ ((t : ℕ) → gives (a .code) (a .value) (now (buf .exit)) (now (r .exit)) ≡ callOutcome threeRates t (now (r .entry)) (readOf n (now (buf .entry)))) ⌝ }
+{
+    if buf.len() < 36 * (n as usize) {
+        return Answer {
+            code: codes::ERR_NULL_PARAMETER,
+            value: 0,
+        };
+    }
+    if n == 0 {
+        return Answer {
+            code: codes::STATUS_NOERROR,
+            value: 0,
+        };
+    }
+    let q = &mut r[1344..2498];
+    let m = fewest(n, octets::wide(q[0]));
+    let code = read_code(q[1153], n, m);
+    let k = m as usize * 36;
+    let end = 1 + k;
+    octets::copy(&mut buf[0..k], &q[1..end]);
+    drop_oldest(q, m as usize);
+    Answer {
+        code: code,
+        value: m,
+    }
+}
+
+// Clear, kind 2: no record to read, no lost mark.
+pub fn clear_queue(r: &mut [u8])
+    requires { ⌜ Opened (now r) ⌝ }
+    ensures { λ u. ⌜ now (r .exit) ≡ region .put (emptied (region .get (now (r .entry)))) ⌝ }
+{
+    let q = &mut r[1344..2498];
+    let held = q[0] as usize;
+    drop_oldest(q, held);
+}
