@@ -1,14 +1,14 @@
 -- The round trips of a telegram on a channel, kind by kind. Assumes nothing.
-use Prim.Native.Nat.{ℕ, zero, suc, _+_, _*_, _/_, _%_, _≤_, _<_}
+use Prim.Native.Nat.{ℕ, _+_, _*_, _/_, _%_, _≤_, _<_}
 use mathlib.Core.Path.{_≡_, refl, sym, ap, _∙_, subst}
 use mathlib.Core.Bool.{Bool, true, false, not, _&&_, _||_, Bool·not-not}
-use mathlib.Core.Option.{Option, none, some, Option·none-ne-some}
+use mathlib.Core.Option.{none, some, Option·none-ne-some}
 use mathlib.Core.List.{List, [], _∷_}
 use native.Mathlib.Omega.{arith}
 use lib.ListN.{length, getD, drop}
 use lib.Dec.{eqb, leb}
-use borrow.Author.Tests.{leb-true, leb-false, eqb-true, eqb-false, le-leb, lt-leb, eq-eqb, ne-eqb}
-use Rattle.telegram.specs.Bits.{if_then_else_, onlyIf, within, bit, bitValue, isByte, areBytes}
+use borrow.Author.Tests.{leb-true, eqb-true, eqb-false, le-leb, lt-leb, eq-eqb, ne-eqb}
+use Rattle.telegram.specs.Bits.{onlyIf, within, bit, bitValue, isByte, areBytes}
 use Rattle.telegram.specs.Telegram.{Telegram, dataTelegram, acknowledge, connection, test, breakOff, disconnection, unusedTime, fits, onWire, connectionOf, readChannel}
 use Rattle.telegram.proofs.Tests.{both, together, tested, either, neither, either-way, chosen, passed, let-through, bit-value, bit-of, bit-small, byte-at, listed, from}
 

@@ -1,15 +1,15 @@
 -- The round trips of an opening telegram, kind by kind. Assumes nothing.
-use Prim.Native.Nat.{ℕ, suc, _+_, _*_, _/_, _%_, _≤_, _<_}
-use mathlib.Core.Path.{_≡_, refl, sym, ap, _∙_, subst}
-use mathlib.Core.Bool.{Bool, true, false, _&&_, and-false}
-use mathlib.Core.Option.{Option, none, some, Option·none-ne-some}
-use mathlib.Core.List.{List, [], _∷_}
+use Prim.Native.Nat.{ℕ, suc, _+_, _*_, _/_, _%_, _≤_}
+use mathlib.Core.Path.{_≡_, refl, ap, _∙_, subst}
+use mathlib.Core.Bool.{true, false, _&&_, and-false}
+use mathlib.Core.Option.{none, some, Option·none-ne-some}
+use mathlib.Core.List.{List, _∷_}
 use native.Mathlib.Omega.{arith}
 use lib.ListN.{length, getD, drop, length-drop}
 use lib.Seq.{drop-cons}
 use lib.Dec.{eqb, leb}
 use borrow.Author.Tests.{leb-true, eqb-true, le-leb, eq-eqb, ne-eqb}
-use Rattle.telegram.specs.Bits.{onlyIf, within, isByte, areBytes}
+use Rattle.telegram.specs.Bits.{onlyIf, isByte, areBytes}
 use Rattle.telegram.specs.Telegram.{Opening, setUp, positive, negative, isOpeningId, isDestination, isId, isApplication, isNegative, fieldsFit, openingFits, openingBytes, idAt, openingOf, readOpening}
 use Rattle.telegram.proofs.Tests.{both, together, either, chosen, passed, let-through, byte-at, bytes-after, listed, from}
 

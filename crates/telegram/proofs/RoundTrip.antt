@@ -3,14 +3,14 @@ use Prim.Native.Nat.{ℕ}
 use mathlib.Core.Path.{_≡_, refl, sym, ap, _∙_, subst}
 use mathlib.Core.Bool.{Bool, true, false, _&&_, false≢true}
 use mathlib.Core.Logic.{_↔_}
-use mathlib.Core.Option.{Option, none, some, Option·map, Option·some-injective, Option·none-ne-some, map-eq-some-iff}
+use mathlib.Core.Option.{Option, none, some, Option·map, map-eq-some-iff}
 use mathlib.Core.List.{List}
 use lib.Dec.{eqb}
 use borrow.Author.Tests.{eqb-true, eq-eqb}
 use Rattle.telegram.specs.Bits.{areBytes}
 use Rattle.telegram.specs.Exact.{Exact}
-use Rattle.telegram.specs.Telegram.{Telegram, fits, onWire, readChannel, Opening, openingFits, openingBytes, readOpening, AnyTelegram, opening, channel, anyFits, anyBytes, comes, readAny}
-use Rattle.telegram.proofs.Tests.{both, together}
+use Rattle.telegram.specs.Telegram.{fits, onWire, readChannel, openingFits, openingBytes, readOpening, opening, channel, anyFits, anyBytes, comes, readAny}
+use Rattle.telegram.proofs.Tests.{both}
 use Rattle.telegram.proofs.Channel.{channel-again, channel-back}
 use Rattle.telegram.proofs.Opening.{opening-again, opening-back}
 

@@ -1,10 +1,10 @@
 -- What it is for a reader of bytes to be exact: what it takes is written back as it was, what fits is read back as it was, all else is refused.
 -- Assumes nothing.
+use Prim.Native.Nat.{ℕ}
 use mathlib.Core.Path.{_≡_}
 use mathlib.Core.Bool.{Bool, true}
-use mathlib.Core.Option.{Option, none, some}
+use mathlib.Core.Option.{Option, some}
 use mathlib.Core.List.{List}
-use Prim.Native.Nat.{ℕ}
 use Rattle.telegram.specs.Bits.{areBytes}
 
 -- over the values of any type, by which of them fit, how they lie in bytes, and the reader

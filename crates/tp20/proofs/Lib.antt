@@ -1,3 +1,4 @@
 pub mod CopyLoop
 pub mod Answers
 pub mod Writes
+pub mod RoundTrip

@@ -1,12 +1,11 @@
 -- Laws on what a write gives. Assumes nothing.
-use Prim.Native.Nat.{ℕ, zero, suc, _+_, _-_, _≤_, _<_}
+use Prim.Native.Nat.{ℕ, suc, _+_, _-_, _≤_}
 use mathlib.Core.Path.{_≡_, refl, sym, ap, _∙_}
-use mathlib.Core.Bool.{Bool, true, false, _&&_}
+use mathlib.Core.Bool.{Bool, true, false}
 use mathlib.Core.List.{List, [], _∷_, _++_, append-assoc, append-nil}
 use native.Mathlib.Omega.{arith}
 use lib.ListN.{length, getD, take, drop, length-append, length-drop, drop-of-length-le}
-use lib.Seq.{take-append-seam, drop-append-seam, take-all, drop-length, drop-drop}
-use lib.Dec.{leb}
+use lib.Seq.{take-append-seam, drop-append-seam, take-all, drop-drop}
 use borrow.Author.Tests.{le-leb}
 use borrow.Rule.Slice.PartMut.{putMid}
 use mir.Val.{Fits}
@@ -14,7 +13,7 @@ use mir.Syntax.{w8}
 use Rattle.telegram.specs.Bits.{isByte, areBytes}
 use Rattle.telegram.specs.Telegram.{Opening, isOpeningId, fieldsFit, openingFits, openingBytes}
 use Rattle.telegram.proofs.Tests.{together}
-use Rattle.tp20.specs.Face.{Wrote, over, done, refusal, writtenIf}
+use Rattle.tp20.specs.Face.{over, done, refusal, writtenIf}
 
 -- the test of the fields, where it holds and where it fails
 pub written : (fit : Bool) (bytes buffer : List ℕ) → fit ≡ true → done bytes buffer ≡ writtenIf fit bytes buffer

@@ -2,10 +2,7 @@ use mathlib.Core.Path.{refl}
 use Rattle.tp20.specs.Face.{naming, padded}
 use Rattle.tp20.proofs.naming.nothing.Statement.{statement}
 use Rattle.tp20.proofs.naming.nothing.Tie as tie
-use Rattle.tp20.proofs.naming.nothing.Reads as reads
-use Rattle.tp20.proofs.naming.nothing.Lts as lts
 
--- src/naming.rt:14:1
 returns : tie.Need-returns
 unfolding naming padded
 returns c = refl

@@ -3,10 +3,7 @@ use mathlib.Core.Path.{refl}
 use Rattle.tp20.specs.Face.{wrote, refusal}
 use Rattle.tp20.proofs.writing.refused.Statement.{statement}
 use Rattle.tp20.proofs.writing.refused.Tie as tie
-use Rattle.tp20.proofs.writing.refused.Reads as reads
-use Rattle.tp20.proofs.writing.refused.Lts as lts
 
--- src/writing.rt:15:1
 returns : tie.Need-returns
 unfolding wrote refusal
 returns c = λ buffer. refl

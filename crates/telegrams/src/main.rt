@@ -1,0 +1,356 @@
+// Runs the reader and the writer on worked telegrams, and prints a line for each. What the file `stdout` holds was worked out by hand
+// from documents 001 (tables 3 to 5, sections 5.1.3 and 5.2.2) and 01, before the program was first run.
+ghost use Prim.Native.Nat.{_≤_};
+use tp20::OnChannel;
+use tp20::Opening;
+use tp20::Taken;
+use tp20::Telegram;
+
+// The bytes, a space before each.
+fn show(bytes: &[u8]) {
+    let mut i = 0;
+    while i < bytes.len() {
+        io::write_all(1, b" ");
+        io::print_hex(1, bytes[i] as u64, 2);
+        i += 1;
+    }
+}
+
+// A number, a space before it.
+fn number(n: u32) {
+    io::write_all(1, b" ");
+    io::print_decimal(1, n as u64);
+}
+
+// A code, an arrow before it.
+fn code(n: u8) {
+    io::write_all(1, b" -> ");
+    io::print_hex(1, n as u64, 2);
+}
+
+// A kind in words.
+fn kind(n: u8) {
+    match n {
+        0x00 => io::write_all(1, b" data"),
+        0x90 => io::write_all(1, b" acknowledge"),
+        0xA0 => io::write_all(1, b" connection set-up"),
+        0xA1 => io::write_all(1, b" connection acknowledge"),
+        0xA3 => io::write_all(1, b" test"),
+        0xA4 => io::write_all(1, b" break"),
+        0xA8 => io::write_all(1, b" disconnect"),
+        0xC0 => io::write_all(1, b" set-up"),
+        0xD0 => io::write_all(1, b" positive reply"),
+        _ => negative(n),
+    }
+    ;
+}
+
+// A negative reply with its own byte.
+fn negative(n: u8) -> bool {
+    io::write_all(1, b" negative reply ");
+    io::print_hex(1, n as u64, 2)
+}
+
+// The kind and the fields of a telegram, and what it carries.
+fn named(opening: bool, identifier: u32, bytes: &[u8]) {
+    let name = tp20::name(opening, identifier, bytes);
+    kind(name.kind);
+    let fields = name.fields;
+    number(fields[0]);
+    number(fields[1]);
+    number(fields[2]);
+    number(fields[3]);
+    number(fields[4]);
+    io::write_all(1, b"; carries");
+    let payload = name.payload;
+    let n = name.len;
+    if n <= 7 {
+        show(&payload[..n]);
+    }
+}
+
+// What the writer makes of a telegram that was read.
+fn again(telegram: Telegram, carried: &[u8]) {
+    let mut buf = [0u8; 8];
+    let written = tp20::write(telegram, carried, &mut buf);
+    let n = written.len;
+    io::write_all(1, b"; again");
+    if n <= 8 {
+        show(&buf[..n]);
+    }
+}
+
+// Reads the bytes and prints what is found; what is taken is written again.
+fn read(opening: bool, identifier: u32, bytes: &[u8]) {
+    let answer = tp20::read(opening, identifier, bytes);
+    code(answer.code);
+    let taken = answer.taken;
+    let Taken::Yes(telegram) = taken else {
+        io::write_all(1, b"\n");
+        return;
+    };
+    named(opening, identifier, bytes);
+    let payload = answer.payload;
+    let n = answer.len;
+    if n <= 7 {
+        again(telegram, &payload[..n]);
+    }
+    io::write_all(1, b"\n");
+}
+
+// A telegram on a channel.
+fn channel(bytes: &[u8]) {
+    io::write_all(1, b"channel");
+    show(bytes);
+    read(false, 0, bytes);
+}
+
+// An opening telegram under an identifier.
+fn opening(identifier: u32, bytes: &[u8]) {
+    io::write_all(1, b"opening ");
+    io::print_hex(1, identifier as u64, 3);
+    io::write_all(1, b":");
+    show(bytes);
+    read(true, identifier, bytes);
+}
+
+// Writes a telegram into the first `size` of nine bytes, and prints all nine.
+fn write(label: &[u8], telegram: Telegram, carried: &[u8], size: usize)
+    requires { ⌜ size ≤ 9 ⌝ }
+{
+    let mut buf = [0xEEu8; 9];
+    let written = tp20::write(telegram, carried, &mut buf[..size]);
+    io::write_all(1, b"write ");
+    io::write_all(1, label);
+    io::write_all(1, b" into ");
+    io::print_decimal(1, size as u64);
+    code(written.code);
+    io::write_all(1, b" ");
+    io::print_decimal(1, written.len as u64);
+    io::write_all(1, b":");
+    show(&buf);
+    io::write_all(1, b"\n");
+}
+
+// A time byte and its time.
+fn time(b: u8) {
+    io::write_all(1, b"time ");
+    io::print_hex(1, b as u64, 2);
+    io::write_all(1, b" ->");
+    number(tp20::time(b));
+    io::write_all(1, b"\n");
+}
+
+fn on_channel() {
+    channel(b"\x10");
+    channel(b"\x00\x01\x02\x03\x04\x05\x06\x07");
+    channel(b"\x2F\xFF");
+    channel(b"\x3A");
+    channel(b"\x40");
+    channel(b"\x80");
+    channel(b"\xB1");
+    channel(b"\x91");
+    channel(b"\x9F");
+    channel(b"\xF1");
+    channel(b"\xB1\x00");
+    channel(b"\xA3");
+    channel(b"\xA4");
+    channel(b"\xA8");
+    channel(b"\xA2");
+    channel(b"\xA3\x00");
+    channel(b"");
+    channel(b"\x00\x00\x00\x00\x00\x00\x00\x00\x00");
+}
+
+fn connections() {
+    channel(b"\xA0\x0F\x8A\xFF\x32\xFF");
+    channel(b"\xA1\x01\x00\xFF\xFF\xFF");
+    channel(b"\xA0\x00\x8A\xFF\x32\xFF");
+    channel(b"\xA0\x10\x8A\xFF\x32\xFF");
+    channel(b"\xA0\x0F\x8A\xFE\x32\xFF");
+    channel(b"\xA0\x0F\x8A\xFF\x32\xFE");
+    channel(b"\xA0\x0F\x8A\xFF\x32");
+    channel(b"\xA0\x0F\x8A\xFF\x32\xFF\x00");
+}
+
+fn set_ups() {
+    opening(0x200, b"\x01\xC0\x00\x10\x00\x03\x01");
+    opening(0x1FF, b"\x01\xC0\x00\x10\x00\x03\x01");
+    opening(0x2EF, b"\xEF\xC0\x00\x10\xFF\x07\x21");
+    opening(0x2F0, b"\x01\xC0\x00\x10\x00\x03\x01");
+    opening(0x200, b"\xF0\xC0\x00\x10\x00\x03\x01");
+    opening(0x200, b"\x01\xC0\x01\x10\x00\x03\x01");
+    opening(0x200, b"\x01\xC0\x00\x00\x00\x03\x01");
+    opening(0x200, b"\x01\xC0\x00\x10\x00\x0B\x01");
+    opening(0x200, b"\x01\xC0\x00\x10\x00\x13\x01");
+    opening(0x200, b"\x01\xC0\x00\x10\x00\x03\x02");
+    opening(0x200, b"\x01\xC0\x00\x10\x00\x03");
+    opening(0x200, b"\x01\xC0\x00\x10\x00\x03\x01\x00");
+    opening(0x200, b"");
+}
+
+fn replies() {
+    opening(0x201, b"\x00\xD0\x00\x03\x40\x07\x10");
+    opening(0x201, b"\x00\xD0\x00\x0B\x40\x07\x10");
+    opening(0x201, b"\x00\xD0\x00\x03\x40\x17\x10");
+    opening(0x201, b"\x00\xD0\x00\x03\x40\x07\x11");
+    opening(0x201, b"\x00\xD6\x01\x02\x03\x04\x05");
+    opening(0x201, b"\x00\xD7\xFF\xFF\xFF\xFF\xFF");
+    opening(0x201, b"\x00\xD8\x00\x00\x00\x00\x00");
+    opening(0x201, b"\x00\xD5\x01\x02\x03\x04\x05");
+    opening(0x201, b"\x00\xD9\x01\x02\x03\x04\x05");
+    opening(0x200, b"\x01\x23\x01\x02\x03\x00\x00");
+    opening(0x200, b"\x01\x24\x01\x02\x03\x04\x05");
+}
+
+fn writes_on_channel() {
+    write(b"test", Telegram::Channel(OnChannel::Test), b"", 8);
+    write(b"test", Telegram::Channel(OnChannel::Test), b"", 7);
+    write(b"break", Telegram::Channel(OnChannel::Break), b"", 9);
+    write(
+        b"disconnect, bytes beside it,",
+        Telegram::Channel(OnChannel::Disconnect),
+        b"99",
+        8,
+    );
+    let ends = Telegram::Channel(OnChannel::Data {
+        asks: true,
+        last: true,
+        sn: 15,
+    });
+    write(b"data, 7 bytes,", ends, b"\x01\x02\x03\x04\x05\x06\x07", 9);
+    let goes_on = Telegram::Channel(OnChannel::Data {
+        asks: false,
+        last: false,
+        sn: 0,
+    });
+    write(b"data, no bytes,", goes_on, b"", 8);
+    write(
+        b"data, 8 bytes,",
+        goes_on,
+        b"\x01\x02\x03\x04\x05\x06\x07\x08",
+        9,
+    );
+    let beyond = Telegram::Channel(OnChannel::Data {
+        asks: true,
+        last: true,
+        sn: 16,
+    });
+    write(b"data, SN 16,", beyond, b"", 8);
+    write(b"data, SN 16,", beyond, b"", 7);
+    write(
+        b"acknowledge, not ready,",
+        Telegram::Channel(OnChannel::Acknowledge {
+            ready: false,
+            sn: 3,
+        }),
+        b"",
+        8,
+    );
+    write(
+        b"acknowledge, SN 16,",
+        Telegram::Channel(OnChannel::Acknowledge {
+            ready: true,
+            sn: 16,
+        }),
+        b"",
+        8,
+    );
+    connection(b"connection acknowledge", true, 1);
+    connection(b"connection set-up, block size 0,", false, 0);
+    connection(b"connection set-up, block size 16,", false, 16);
+}
+
+// A connection telegram with T1 100 ms and T3 5 ms.
+fn connection(label: &[u8], ack: bool, block_size: u8) {
+    write(
+        label,
+        Telegram::Channel(OnChannel::Connection {
+            ack,
+            block_size,
+            t1: 0x8A,
+            t3: 0x32,
+        }),
+        b"",
+        8,
+    );
+}
+
+// A set-up for diagnostics.
+fn set_up(label: &[u8], identifier: u32, destination: u8, rx_id: u16) {
+    write(
+        label,
+        Telegram::Opening(
+            identifier,
+            Opening::SetUp {
+                destination,
+                rx_id,
+                application: 0x01,
+            },
+        ),
+        b"",
+        8,
+    );
+}
+
+// A positive reply.
+fn positive(label: &[u8], application: u8) {
+    write(
+        label,
+        Telegram::Opening(
+            0x201,
+            Opening::Positive {
+                destination: 0x00,
+                tx_id: 0x300,
+                rx_id: 0x740,
+                application,
+            },
+        ),
+        b"",
+        8,
+    );
+}
+
+// A negative reply with the bytes that it carries.
+fn refusal(label: &[u8], kind: u8, carried: &[u8]) {
+    write(
+        label,
+        Telegram::Opening(
+            0x201,
+            Opening::Negative {
+                destination: 0x00,
+                kind,
+            },
+        ),
+        carried,
+        8,
+    );
+}
+
+fn writes_of_openings() {
+    set_up(b"set-up", 0x200, 0x01, 0x300);
+    set_up(b"set-up from 1ff", 0x1FF, 0x01, 0x300);
+    set_up(b"set-up, RX-ID 800,", 0x200, 0x01, 0x800);
+    set_up(b"set-up, destination f0,", 0x200, 0xF0, 0x300);
+    positive(b"positive reply", 0x10);
+    positive(b"positive reply, application 2,", 0x02);
+    refusal(b"negative reply", 0xD8, b"\x01\x02\x03\x04\x05");
+    refusal(b"negative reply, 4 bytes,", 0xD8, b"\x01\x02\x03\x04");
+    refusal(b"negative reply d9", 0xD9, b"\x01\x02\x03\x04\x05");
+}
+
+fn main() {
+    on_channel();
+    connections();
+    set_ups();
+    replies();
+    writes_on_channel();
+    writes_of_openings();
+    time(0x00);
+    time(0x32);
+    time(0x41);
+    time(0x8A);
+    time(0xBF);
+    time(0xC1);
+    time(0xFF);
+}

@@ -1,0 +1,127 @@
+-- The round trips carried to the reader and the writer, over whatever meets their promises; and that the promises leave no choice.
+-- Assumes nothing.
+use Prim.Native.Nat.{ℕ, _≤_}
+use mathlib.Core.Path.{_≡_, refl, sym, ap, _∙_, subst}
+use mathlib.Core.Bool.{Bool, true, false, _&&_}
+use mathlib.Core.Option.{Option, none, some}
+use mathlib.Core.List.{List}
+use native.Mathlib.Omega.{arith}
+use lib.ListN.{length, take}
+use lib.Dec.{ltb}
+use lib.Seq.{take-append-seam}
+use borrow.Author.Tests.{le-ltb, lt-ltb}
+use Rattle.telegram.specs.Bits.{areBytes}
+use Rattle.telegram.specs.Telegram.{AnyTelegram, anyFits, anyBytes, comes, readAny}
+use Rattle.telegram.specs.Telegram as T
+use Rattle.telegram.specs.Exact.{Exact}
+use Rattle.telegram.proofs.Tests.{both, together, tested}
+use Rattle.telegram.proofs.RoundTrip.{any-exact}
+use Rattle.tp20.specs.declared.Opening.{Opening}
+use Rattle.tp20.specs.declared.Opening.the-variants.{SetUp, Positive, Negative}
+use Rattle.tp20.specs.declared.OnChannel.{OnChannel}
+use Rattle.tp20.specs.declared.OnChannel.the-variants.{Data, Acknowledge, Connection, Test, Break, Disconnect}
+use Rattle.tp20.specs.declared.Telegram.{Telegram}
+use Rattle.tp20.specs.declared.Telegram.the-variants.{Opening as opens, Channel as travels}
+use Rattle.tp20.specs.declared.Taken.{Taken}
+use Rattle.tp20.specs.declared.Taken.the-variants.{Yes, No}
+use Rattle.tp20.specs.declared.Answer.{Answer}
+use Rattle.tp20.specs.declared.Written.{Written}
+use Rattle.tp20.specs.Face.{Told, told, takenSaid, said, openingSaid, channelSaid, answering, Wrote, wrote, writing, writtenIf, done, refusal, over}
+use Rattle.tp20.proofs.Answers.{answered}
+
+-- what is written of a telegram that fits
+put-down : (t : AnyTelegram) (buffer : List ℕ) → 8 ≤ length buffer → anyFits t ≡ true → writing t buffer ≡ done (anyBytes t) buffer
+unfolding writing writtenIf
+put-down t buffer room e = rw (le-ltb (length buffer) 8 room, e)
+
+-- a write that is done is one of a telegram that fits
+refused-code : (n : ℕ) (buffer : List ℕ) (x : Wrote) → x ≡ refusal n buffer → x .code ≡ n
+unfolding refusal
+refused-code n buffer x e = ap (λ (y : Wrote). y .code) e
+
+put-if : (t : AnyTelegram) (buffer : List ℕ) (x : Wrote) → x ≡ writing t buffer → x .code ≡ 0x00 → (anyFits t ≡ true) × (x ≡ done (anyBytes t) buffer)
+unfolding writing writtenIf
+put-if t buffer x e ok =
+    tested (ltb (length buffer) 8)
+    (λ short. let z : x .code ≡ 0x04 = refused-code 0x04 buffer x (rw short at e) in absurd (omega arith))
+    (λ room. tested (anyFits t)
+    (λ fit. (fit, rw (room, fit) at e))
+    (λ bad. let z : x .code ≡ 0x0A = refused-code 0x0A buffer x (rw (room, bad) at e) in absurd (omega arith)))
+
+-- Whatever the reader takes and the writer is given, with the payload beside it, is written as the same bytes.
+pub read-then-write : (s : Bool) (id : ℕ) (b : List ℕ) (a : Answer) (t : Telegram) (w : Written) (before after : List ℕ)
+    → areBytes b ≡ true → 8 ≤ length before
+    → told a ≡ answering (readAny s id b) → a .taken ≡ Yes t
+    → wrote w after ≡ writing (said t (take (a .len) (a .payload))) before
+    → wrote w after ≡ done b before
+unfolding takenSaid
+read-then-write s id b a t w before after bytes room reads took writes =
+    let found : readAny s id b ≡ some (said t (take (a .len) (a .payload))) = sym (answered a _ reads) ∙ ap (λ k. takenSaid k (take (a .len) (a .payload))) took in
+    let h = any-exact s id .read-then-written b _ bytes found in
+    writes ∙ put-down _ before room (both {a = comes s id (said t (take (a .len) (a .payload)))} (h .0) .1) ∙ ap (λ l. done l before) (h .1)
+
+-- Whatever the writer writes, read as the sort and under the identifier that it was given for, is the same telegram.
+pub write-then-read : (s : Bool) (id : ℕ) (t : Telegram) (carried : List ℕ) (w : Written) (before after : List ℕ) (a : Answer)
+    → comes s id (said t carried) ≡ true
+    → wrote w after ≡ writing (said t carried) before → w .code ≡ 0x00
+    → told a ≡ answering (readAny s id (take (w .len) after))
+    → told a ≡ answering (some (said t carried))
+unfolding wrote done over
+write-then-read s id t carried w before after a sort writes ok reads =
+    let u = said t carried in
+    let down = put-if u before (wrote w after) writes ok in
+    let start : take (w .len) after ≡ anyBytes u =
+    ap (λ (x : Wrote). take (x .len) (x .buffer)) (down .1) ∙ take-append-seam (anyBytes u) _ in
+    let again : readAny s id (anyBytes u) ≡ some u = any-exact s id .written-then-read u (together sort (down .0)) .1 in
+    reads ∙ ap answering (ap (readAny s id) start ∙ again)
+
+-- ---- the promises leave no choice
+
+-- the case of the enum that says a telegram
+openingCase : T.Opening → Opening
+openingCase (T.setUp d rx app) = SetUp d rx app
+openingCase (T.positive d tx rx app) = Positive d tx rx app
+openingCase (T.negative d kind rest) = Negative d kind
+
+channelCase : T.Telegram → OnChannel
+channelCase (T.dataTelegram asks last sn bytes) = Data asks last sn
+channelCase (T.acknowledge ready sn) = Acknowledge ready sn
+channelCase (T.connection ack bs t1 t3) = Connection ack bs t1 t3
+channelCase T.test = Test
+channelCase T.breakOff = Break
+channelCase T.disconnection = Disconnect
+
+takenCase : Option AnyTelegram → Taken
+takenCase none = No
+takenCase (some (T.opening id o)) = Yes (opens id (openingCase o))
+takenCase (some (T.channel t)) = Yes (travels (channelCase t))
+
+takenCase-said : (k : Taken) (bytes : List ℕ) → takenCase (takenSaid k bytes) ≡ k
+unfolding takenCase takenSaid said openingSaid channelSaid openingCase channelCase
+takenCase-said No bytes = refl
+takenCase-said (Yes (opens id (SetUp d rx app))) bytes = refl
+takenCase-said (Yes (opens id (Positive d tx rx app))) bytes = refl
+takenCase-said (Yes (opens id (Negative d kind))) bytes = refl
+takenCase-said (Yes (travels (Data asks last sn))) bytes = refl
+takenCase-said (Yes (travels (Acknowledge ready sn))) bytes = refl
+takenCase-said (Yes (travels (Connection ack bs t1 t3))) bytes = refl
+takenCase-said (Yes (travels Test)) bytes = refl
+takenCase-said (Yes (travels Break)) bytes = refl
+takenCase-said (Yes (travels Disconnect)) bytes = refl
+
+-- Any two answers that the reader's promise allows are equal.
+pub one-answer : (x : Told) (a b : Answer) → told a ≡ x → told b ≡ x → a ≡ b
+unfolding told takenSaid
+one-answer x a b p q = sym (made a) ∙ ap make (p ∙ sym q) ∙ made b
+  where
+    make : Told → Answer
+    make t = record { code = t .code; taken = takenCase (t .telegram); payload = t .payload; len = t .len }
+
+    made : (a : Answer) → make (told a) ≡ a
+    made a = ap (λ k. record { code = a .code; taken = k; payload = a .payload; len = a .len }) (takenCase-said (a .taken) (take (a .len) (a .payload)))
+
+-- Any two results and buffers that the writer's promise allows are equal.
+pub one-write : (x : Wrote) (v w : Written) (after later : List ℕ) → wrote v after ≡ x → wrote w later ≡ x → (v ≡ w) × (after ≡ later)
+unfolding wrote
+one-write x v w after later p q =
+    (ap (λ (y : Wrote). record { code = y .code; len = y .len }) (p ∙ sym q), ap (λ (y : Wrote). y .buffer) (p ∙ sym q))
