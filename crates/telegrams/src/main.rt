@@ -5,15 +5,29 @@ use tp20::OnChannel;
 use tp20::Opening;
 use tp20::Taken;
 use tp20::Telegram;
+use tp20::Written;
+
+// A byte, a space before it.
+fn byte(b: u8) {
+    io::write_all(1, b" ");
+    io::print_hex(1, b as u64, 2);
+}
 
 // The bytes, a space before each.
 fn show(bytes: &[u8]) {
     let mut i = 0;
     while i < bytes.len() {
-        io::write_all(1, b" ");
-        io::print_hex(1, bytes[i] as u64, 2);
+        byte(bytes[i]);
         i += 1;
     }
+}
+
+// The first n bytes, or all where there are fewer.
+fn first(bytes: &[u8], n: usize) -> &[u8] {
+    if n < bytes.len() {
+        return &bytes[0..n];
+    }
+    bytes
 }
 
 // A number, a space before it.
@@ -51,6 +65,12 @@ fn negative(n: u8) -> bool {
     io::print_hex(1, n as u64, 2)
 }
 
+// The bytes that a telegram carries.
+fn carried(payload: &[u8; 7], n: usize) {
+    io::write_all(1, b"; carries");
+    show(first(payload, n));
+}
+
 // The kind and the fields of a telegram, and what it carries.
 fn named(opening: bool, identifier: u32, bytes: &[u8]) {
     let name = tp20::name(opening, identifier, bytes);
@@ -61,23 +81,16 @@ fn named(opening: bool, identifier: u32, bytes: &[u8]) {
     number(fields[2]);
     number(fields[3]);
     number(fields[4]);
-    io::write_all(1, b"; carries");
     let payload = name.payload;
-    let n = name.len;
-    if n <= 7 {
-        show(&payload[..n]);
-    }
+    carried(&payload, name.len);
 }
 
 // What the writer makes of a telegram that was read.
-fn again(telegram: Telegram, carried: &[u8]) {
+fn again(telegram: Telegram, payload: &[u8; 7], n: usize) {
     let mut buf = [0u8; 8];
-    let written = tp20::write(telegram, carried, &mut buf);
-    let n = written.len;
+    let written = tp20::write(telegram, first(payload, n), &mut buf);
     io::write_all(1, b"; again");
-    if n <= 8 {
-        show(&buf[..n]);
-    }
+    show(first(&buf, written.len));
 }
 
 // Reads the bytes and prints what is found; what is taken is written again.
@@ -91,10 +104,7 @@ fn read(opening: bool, identifier: u32, bytes: &[u8]) {
     };
     named(opening, identifier, bytes);
     let payload = answer.payload;
-    let n = answer.len;
-    if n <= 7 {
-        again(telegram, &payload[..n]);
-    }
+    again(telegram, &payload, answer.len);
     io::write_all(1, b"\n");
 }
 
@@ -114,22 +124,33 @@ fn opening(identifier: u32, bytes: &[u8]) {
     read(true, identifier, bytes);
 }
 
-// Writes a telegram into the first `size` of nine bytes, and prints all nine.
-fn write(label: &[u8], telegram: Telegram, carried: &[u8], size: usize)
-    requires { ⌜ size ≤ 9 ⌝ }
-{
+// Writes a telegram into the first n bytes of the buffer, or into all where there are fewer.
+fn into(telegram: Telegram, carried: &[u8], buf: &mut [u8], n: usize) -> Written {
+    if n < buf.len() {
+        return tp20::write(telegram, carried, &mut buf[0..n]);
+    }
+    tp20::write(telegram, carried, buf)
+}
+
+// All nine bytes of a buffer.
+fn show_all(buf: &[u8; 9]) {
+    io::write_all(1, b":");
+    show(buf);
+    io::write_all(1, b"\n");
+}
+
+// Writes a telegram into the first n of nine bytes, and prints all nine.
+fn write(label: &[u8], telegram: Telegram, carried: &[u8], n: usize) {
     let mut buf = [0xEEu8; 9];
-    let written = tp20::write(telegram, carried, &mut buf[..size]);
+    let written = into(telegram, carried, &mut buf, n);
     io::write_all(1, b"write ");
     io::write_all(1, label);
     io::write_all(1, b" into ");
-    io::print_decimal(1, size as u64);
+    io::print_decimal(1, n as u64);
     code(written.code);
     io::write_all(1, b" ");
     io::print_decimal(1, written.len as u64);
-    io::write_all(1, b":");
-    show(&buf);
-    io::write_all(1, b"\n");
+    show_all(&buf);
 }
 
 // A time byte and its time.
@@ -141,6 +162,7 @@ fn time(b: u8) {
     io::write_all(1, b"\n");
 }
 
+// Telegrams on a channel: every kind but connections, wrong bits, wrong lengths.
 fn on_channel() {
     channel(b"\x10");
     channel(b"\x00\x01\x02\x03\x04\x05\x06\x07");
@@ -162,6 +184,7 @@ fn on_channel() {
     channel(b"\x00\x00\x00\x00\x00\x00\x00\x00\x00");
 }
 
+// Connection telegrams: block sizes 0 and 16, T2 and T4 not 0xFF, wrong lengths.
 fn connections() {
     channel(b"\xA0\x0F\x8A\xFF\x32\xFF");
     channel(b"\xA1\x01\x00\xFF\xFF\xFF");
@@ -173,6 +196,7 @@ fn connections() {
     channel(b"\xA0\x0F\x8A\xFF\x32\xFF\x00");
 }
 
+// Set-ups: identifiers and destinations at their limits and past them, wrong fixed bytes, information bits, application and lengths.
 fn set_ups() {
     opening(0x200, b"\x01\xC0\x00\x10\x00\x03\x01");
     opening(0x1FF, b"\x01\xC0\x00\x10\x00\x03\x01");
@@ -189,6 +213,7 @@ fn set_ups() {
     opening(0x200, b"");
 }
 
+// Replies: information bits, application, kinds past the three, and the opcodes of requests.
 fn replies() {
     opening(0x201, b"\x00\xD0\x00\x03\x40\x07\x10");
     opening(0x201, b"\x00\xD0\x00\x0B\x40\x07\x10");
@@ -203,62 +228,24 @@ fn replies() {
     opening(0x200, b"\x01\x24\x01\x02\x03\x04\x05");
 }
 
-fn writes_on_channel() {
-    write(b"test", Telegram::Channel(OnChannel::Test), b"", 8);
-    write(b"test", Telegram::Channel(OnChannel::Test), b"", 7);
-    write(b"break", Telegram::Channel(OnChannel::Break), b"", 9);
+// Data with the bytes that they carry.
+fn data(label: &[u8], asks: bool, last: bool, sn: u8, carried: &[u8], n: usize) {
     write(
-        b"disconnect, bytes beside it,",
-        Telegram::Channel(OnChannel::Disconnect),
-        b"99",
-        8,
+        label,
+        Telegram::Channel(OnChannel::Data { asks, last, sn }),
+        carried,
+        n,
     );
-    let ends = Telegram::Channel(OnChannel::Data {
-        asks: true,
-        last: true,
-        sn: 15,
-    });
-    write(b"data, 7 bytes,", ends, b"\x01\x02\x03\x04\x05\x06\x07", 9);
-    let goes_on = Telegram::Channel(OnChannel::Data {
-        asks: false,
-        last: false,
-        sn: 0,
-    });
-    write(b"data, no bytes,", goes_on, b"", 8);
+}
+
+// An acknowledge.
+fn acknowledge(label: &[u8], ready: bool, sn: u8) {
     write(
-        b"data, 8 bytes,",
-        goes_on,
-        b"\x01\x02\x03\x04\x05\x06\x07\x08",
-        9,
-    );
-    let beyond = Telegram::Channel(OnChannel::Data {
-        asks: true,
-        last: true,
-        sn: 16,
-    });
-    write(b"data, SN 16,", beyond, b"", 8);
-    write(b"data, SN 16,", beyond, b"", 7);
-    write(
-        b"acknowledge, not ready,",
-        Telegram::Channel(OnChannel::Acknowledge {
-            ready: false,
-            sn: 3,
-        }),
+        label,
+        Telegram::Channel(OnChannel::Acknowledge { ready, sn }),
         b"",
         8,
     );
-    write(
-        b"acknowledge, SN 16,",
-        Telegram::Channel(OnChannel::Acknowledge {
-            ready: true,
-            sn: 16,
-        }),
-        b"",
-        8,
-    );
-    connection(b"connection acknowledge", true, 1);
-    connection(b"connection set-up, block size 0,", false, 0);
-    connection(b"connection set-up, block size 16,", false, 16);
 }
 
 // A connection telegram with T1 100 ms and T3 5 ms.
@@ -327,6 +314,44 @@ fn refusal(label: &[u8], kind: u8, carried: &[u8]) {
     );
 }
 
+// Telegrams written on a channel; the bytes beside a disconnect are no part of it.
+fn writes_on_channel() {
+    write(b"test", Telegram::Channel(OnChannel::Test), b"", 8);
+    write(b"test", Telegram::Channel(OnChannel::Test), b"", 7);
+    write(b"break", Telegram::Channel(OnChannel::Break), b"", 9);
+    write(
+        b"disconnect, bytes beside it,",
+        Telegram::Channel(OnChannel::Disconnect),
+        b"99",
+        8,
+    );
+    data(
+        b"data, 7 bytes,",
+        true,
+        true,
+        15,
+        b"\x01\x02\x03\x04\x05\x06\x07",
+        9,
+    );
+    data(b"data, no bytes,", false, false, 0, b"", 8);
+    data(
+        b"data, 8 bytes,",
+        false,
+        false,
+        0,
+        b"\x01\x02\x03\x04\x05\x06\x07\x08",
+        9,
+    );
+    data(b"data, SN 16,", true, true, 16, b"", 8);
+    data(b"data, SN 16,", true, true, 16, b"", 7);
+    acknowledge(b"acknowledge, not ready,", false, 3);
+    acknowledge(b"acknowledge, SN 16,", true, 16);
+    connection(b"connection acknowledge", true, 1);
+    connection(b"connection set-up, block size 0,", false, 0);
+    connection(b"connection set-up, block size 16,", false, 16);
+}
+
+// Opening telegrams written.
 fn writes_of_openings() {
     set_up(b"set-up", 0x200, 0x01, 0x300);
     set_up(b"set-up from 1ff", 0x1FF, 0x01, 0x300);
@@ -339,6 +364,7 @@ fn writes_of_openings() {
     refusal(b"negative reply d9", 0xD9, b"\x01\x02\x03\x04\x05");
 }
 
+// Runs every case.
 fn main() {
     on_channel();
     connections();
