@@ -1,25 +1,21 @@
 -- The checks of a message as code makes them, and the 36 bytes of a record as code writes them: six numbers, then twelve bytes. Assumes nothing.
-use mathlib.Core.Path.{_≡_, refl, sym, ap, ap₂, _∙_, subst}
-use Prim.Native.Nat.{ℕ, _+_, _*_, _-_, _^_, _≤_, _<_}
+use mathlib.Core.Path.{_≡_, refl, sym, ap, ap₂, _∙_}
+use Prim.Native.Nat.{ℕ, _+_, _-_, _≤_, _<_}
 use native.Mathlib.Omega.{arith}
-use mathlib.Core.Bool.{Bool, true, false, not, _&&_, _||_}
-use mathlib.Core.List.{List, [], _∷_, _++_, append-nil, append-assoc}
-use lib.ListN.{length, getD, take, drop, length-append, length-drop, length-replicate, drop-of-length-le}
-use lib.Seq.{take-all, take-at, drop-at, drop-drop, getD-take, length-take-le}
-use lib.Dec.{T, eqb, leb, ltb, ltb→lt, eqb→eq}
+use mathlib.Core.Bool.{Bool, true, false, not}
+use mathlib.Core.List.{List, [], _++_, append-nil}
+use lib.ListN.{length, getD, take, drop, length-append, length-drop, drop-of-length-le}
+use lib.Seq.{take-at, drop-at, drop-drop, getD-take, length-take-le}
+use lib.Dec.{eqb, ltb}
 use borrow.Author.Tests.{le-leb, lt-leb}
 use borrow.Rule.Slice.PartMut.{putMid, midOf}
-use Rattle.codec.specs.Plain.{if_then_else_, within, member, zeros}
+use Rattle.codec.specs.Plain.{if_then_else_, within, zeros}
 use Rattle.codec.specs.Word.{word, wordAt}
-use Rattle.codec.specs.Code.{byte, word32, both, via, such, many}
-use Rattle.codec.proofs.Tests.{left, right, or-either}
-use Rattle.codec.proofs.Lawful.{such-test, such-under, both-first, both-second}
-use Rattle.codec.proofs.Word.{word-back}
 use Rattle.machine.specs.Codes.{codeOf}
-use Rattle.machine.specs.Message.{bit, takes, idOf, idLimit, idBytes, widthFlag, Rec, twelve, shown, protocolOf, sizeOf, wideOf, dataOf, messageCode, clean, received}
-use Rattle.layout.specs.Record.{row, rec36, recParts, body, dataParts, dataFits, widthFits, outgoing, outCell}
-use Rattle.layout.proofs.Memory.{rec-lawful, shown-is}
-use Rattle.message.specs.Cell.{numbers, padded, Outgoing}
+use Rattle.machine.specs.Message.{takes, idOf, idLimit, idBytes, widthFlag, Rec, twelve, shown, protocolOf, sizeOf, wideOf, dataOf, messageCode, clean, received}
+use Rattle.layout.specs.Record.{rec36}
+use Rattle.layout.proofs.Memory.{shown-is}
+use Rattle.message.specs.Cell.{numbers, padded}
 
 -- ---- the checks
 
@@ -135,94 +131,9 @@ clean-put cell ys zs m tx size h lm et es s y z =
 
 -- ---- the record of a frame received
 
-pub received-put : (cell ys zs : List ℕ) (clock rx size : ℕ) (wide : Bool) (id : ℕ) (b : List ℕ) → length cell ≡ 36 → rx ≡ widthFlag wide → size ≡ 4 + length b → ys ≡ numbers rx 0 clock size
-    → zs ≡ padded 12 (idBytes id ++ b) → putMid 24 12 (ys ++ drop 24 cell) zs ≡ rec36 .put (received clock (widthFlag wide) (idBytes id ++ b))
+pub received-put : (cell ys zs : List ℕ) (clock rx size id : ℕ) (b : List ℕ) → length cell ≡ 36 → size ≡ 4 + length b → ys ≡ numbers rx 0 clock size
+    → zs ≡ padded 12 (idBytes id ++ b) → putMid 24 12 (ys ++ drop 24 cell) zs ≡ rec36 .put (received clock rx (idBytes id ++ b))
 unfolding received
-received-put cell ys zs clock rx size wide id b h er es y z =
-    record-put cell ys zs (received clock (widthFlag wide) (idBytes id ++ b)) h
-    (y ∙ ap₂ (λ (r k : ℕ). numbers r 0 clock k) er (es ∙ sym (length-append (idBytes id) b ∙ ap (λ (k : ℕ). k + length b) (id-long id)))) z
-
--- ---- a record that is held to be sent: its numbers, and its last twelve bytes
-
-module _ (r : Rec) (t : T (rec36 .ok r)) where
-  fields-ok : T (both word32 (both word32 (both word32 (both word32 body))) .ok (recParts r))
-  unfolding rec36 via
-  fields-ok = such-under (both word32 (both word32 (both word32 (both word32 body)))) (λ p. eqb (p .0) 5) (recParts r) t
-
-  behind-rx : T (both word32 (both word32 body) .ok (r .tx, (r .time, r .bytes)))
-  behind-rx = both-second word32 (both word32 (both word32 body)) (recParts r .1) (both-second word32 (both word32 (both word32 (both word32 body))) (recParts r) fields-ok)
-
-  tx-fits : r .tx < 2 ^ 32
-  unfolding word32
-  tx-fits = ltb→lt (r .tx) (2 ^ 32) (both-first word32 (both word32 body) (r .tx, (r .time, r .bytes)) behind-rx)
-
-  body-ok : T (body .ok (r .bytes))
-  body-ok = both-second word32 body (r .time, r .bytes) (both-second word32 (both word32 body) (r .tx, (r .time, r .bytes)) behind-rx)
-
-  size-fits : length (r .bytes) < 2 ^ 32
-  unfolding body via dataParts word32
-  size-fits = ltb→lt (length (r .bytes)) (2 ^ 32) (both-first word32 (both word32 row) (dataParts (r .bytes)) (such-under (both word32 (both word32 row)) dataFits (dataParts (r .bytes)) body-ok))
-
-  tx-at : wordAt 8 (rec36 .put r) ≡ r .tx
-  unfolding numbers word wordAt
-  tx-at = ap (wordAt 8) (sym (record-is r)) ∙ word-back (r .tx) tx-fits
-
-  size-at : wordAt 16 (rec36 .put r) ≡ length (r .bytes)
-  unfolding numbers word wordAt
-  size-at = ap (wordAt 16) (sym (record-is r)) ∙ word-back (length (r .bytes)) size-fits
-
-  cell-long : length (rec36 .put r) ≡ 36
-  unfolding rec36 body row via such both many word32 byte
-  cell-long = rec-lawful .long r t
-
-  twelve-at : take 12 (drop 24 (rec36 .put r)) ≡ padded 12 (r .bytes)
-  unfolding numbers word
-  twelve-at = take-all 12 (drop 24 (rec36 .put r)) (omega (arith, length-drop 24 (rec36 .put r), cell-long)) ∙ ap (λ (m : List ℕ). drop 24 m) (sym (record-is r))
-
--- the record that a cell holds
-module _ (m : List ℕ) (o : Outgoing m) where
-  rec-size : rec36 .size ≡ 36
-  unfolding rec36 body row via such both many word32 byte
-  rec-size = refl
-
-  held : rec36 .put (rec36 .get m) ≡ m
-  held = rec-lawful .put-get m (o .long ∙ sym rec-size) (o .valid)
-
-  held-ok : T (rec36 .ok (rec36 .get m))
-  held-ok = rec-lawful .ok-get m (o .long ∙ sym rec-size) (o .valid)
-
-  pub tx-of : wordAt 8 m ≡ rec36 .get m .tx
-  tx-of = ap (wordAt 8) (sym held) ∙ tx-at (rec36 .get m) held-ok
-
-  pub echo-put : (cell ys zs : List ℕ) (clock rx size : ℕ) → length cell ≡ 36 → rx ≡ wordAt 8 m + 1 → size ≡ wordAt 16 m → ys ≡ numbers rx 0 clock size → zs ≡ take 12 (drop 24 m)
-      → putMid 24 12 (ys ++ drop 24 cell) zs ≡ rec36 .put (received clock (rec36 .get m .tx + 1) (rec36 .get m .bytes))
-  unfolding received
-  echo-put cell ys zs clock rx size h er es y z =
-      record-put cell ys zs (received clock (rec36 .get m .tx + 1) (rec36 .get m .bytes)) h
-      (y ∙ ap₂ (λ (a b : ℕ). numbers a 0 clock b) (er ∙ ap (λ (k : ℕ). k + 1) tx-of) (es ∙ ap (wordAt 16) (sym held) ∙ size-at (rec36 .get m) held-ok))
-      (z ∙ ap (λ (x : List ℕ). take 12 (drop 24 x)) (sym held) ∙ twelve-at (rec36 .get m) held-ok)
-
--- a record that may be held for sending is one to make an echo of
-module _ (flags : ℕ) (r : Rec) (t : T (outCell flags .ok r)) where
-  ok-of : T (rec36 .ok r)
-  unfolding outCell
-  ok-of = such-under rec36 (outgoing flags) r t
-
-  tx-of-two : r .tx ≤ 0x100
-  unfolding outCell outgoing member
-  tx-of-two =
-      let a = eqb (r .rx) 0 in
-      let b = member (r .tx) (0 ∷ 0x100 ∷ []) in
-      let c = eqb (r .time) 0 in
-      let d = widthFits flags (bit 0x100 (r .tx)) (r .bytes) in
-      or-either (eqb (r .tx) 0) (eqb (r .tx) 0x100 || false) (λ e. omega (arith, eqb→eq (r .tx) 0 e))
-      (or-either (eqb (r .tx) 0x100) false (λ e. omega (arith, eqb→eq (r .tx) 0x100 e)) (λ e. absurd e))
-      (right a b (left (a && b) c (left (a && b && c) d (such-test rec36 (outgoing flags) r t))))
-
-  pub outgoing-put : Outgoing (rec36 .put r)
-  outgoing-put =
-      record {
-        long = cell-long r ok-of;
-        valid = rec-lawful .valid-put r ok-of;
-        flags = subst (λ (x : Rec). x .tx ≤ 0x100) (sym (rec-lawful .get-put r ok-of)) tx-of-two;
-      }
+received-put cell ys zs clock rx size id b h es y z =
+    record-put cell ys zs (received clock rx (idBytes id ++ b)) h
+    (y ∙ ap (λ (k : ℕ). numbers rx 0 clock k) (es ∙ sym (length-append (idBytes id) b ∙ ap (λ (k : ℕ). k + length b) (id-long id)))) z

@@ -1,11 +1,11 @@
-// Message records: the check of a message to send, and records written into cells of 36 bytes.
+// Message records: the check of a message to send, and its clean record and the record of a frame written into cells of 36 bytes.
 ghost use mathlib.Core.Path.{_≡_};
 ghost use mathlib.Core.List.{_++_};
-ghost use Prim.Native.Nat.{_+_, _≤_};
+ghost use Prim.Native.Nat.{_≤_};
 ghost use lib.ListN.{length};
 ghost use Rattle.machine.specs.Message.{messageCode, wideOf, sizeOf, widthFlag, idBytes, clean, received};
 ghost use Rattle.layout.specs.Record.{rec36};
-ghost use Rattle.message.specs.Cell.{numbers, padded, Outgoing};
+ghost use Rattle.message.specs.Cell.{numbers, padded};
 
 // Raw CAN, the one protocol of a message.
 const CAN: u32 = 5;
@@ -43,8 +43,8 @@ pub fn message_code(m: &[u8], flags: u32) -> u32
     codes::STATUS_NOERROR
 }
 
-// The width flag of a width.
-fn width_flag(wide: bool) -> u32
+// The width flag of a width, in TxFlags and RxStatus.
+pub fn width_flag(wide: bool) -> u32
     ensures { λ r. ⌜ r ≡ widthFlag wide ⌝ }
 {
     if wide { 0x100 } else { 0 }
@@ -94,24 +94,12 @@ fn put_frame(d: &mut [u8], id: u32, bytes: &[u8])
     put_padded(&mut d[4..12], bytes);
 }
 
-// The record of a frame received at a clock, into a cell.
-pub fn put_received(cell: &mut [u8], clock: u32, wide: bool, id: u32, bytes: &[u8])
+// The record of a frame received at a clock, with its RxStatus, into a cell.
+pub fn put_received(cell: &mut [u8], clock: u32, rx: u32, id: u32, bytes: &[u8])
     requires { ⌜ (length (now cell) ≡ 36) × (length (now bytes) ≤ 8) ⌝ }
-    ensures { λ r. ⌜ now (cell .exit) ≡ rec36 .put (received clock (widthFlag wide) (idBytes id ++ now (bytes .entry))) ⌝ }
+    ensures { λ r. ⌜ now (cell .exit) ≡ rec36 .put (received clock rx (idBytes id ++ now (bytes .entry))) ⌝ }
 {
     let size = 4 + bytes.len() as u32;
-    let rx = width_flag(wide);
     put_numbers(&mut cell[0..24], rx, 0, clock, size);
     put_frame(&mut cell[24..36], id, bytes);
-}
-
-// A record that was sent, as if received at a clock but with RxStatus bit 0 set, into a cell.
-pub fn put_echo(cell: &mut [u8], clock: u32, sent: &[u8])
-    requires { ⌜ (length (now cell) ≡ 36) × Outgoing (now sent) ⌝ }
-    ensures { λ r. ⌜ now (cell .exit) ≡ rec36 .put (received clock (rec36 .get (now (sent .entry)) .tx + 1) (rec36 .get (now (sent .entry)) .bytes)) ⌝ }
-{
-    let status = octets::word_at(sent, 8) + 1;
-    let size = octets::word_at(sent, 16);
-    put_numbers(&mut cell[0..24], status, 0, clock, size);
-    octets::copy(&mut cell[24..36], &sent[24..36]);
 }

@@ -1,5 +1,5 @@
 -- The bytes of a receiving part: its count, its records and its lost mark; one record more, the oldest given out, the oldest gone. Assumes nothing.
-use mathlib.Core.Path.{_≡_, refl, sym, ap, ap₂, _∙_, subst}
+use mathlib.Core.Path.{_≡_, refl, sym, ap, ap₂, _∙_}
 use Prim.Native.Nat.{ℕ, suc, _+_, _*_, _-_, _≤_, _<_}
 use native.Mathlib.Nat.{add-comm}
 use native.Mathlib.Numerals.{one-add}
@@ -8,19 +8,19 @@ use mathlib.Core.Bool.{Bool, true, false}
 use mathlib.Core.List.{List, [], _∷_, _++_, append-assoc}
 use lib.ListN.{length, getD, set, take, drop, length-append, length-drop, length-replicate, replicate-append-replicate}
 use lib.Seq.{take-at, drop-at, take-append-le, drop-append-le, take-append-add, drop-append-add, getD-at, set-at, length-take-le, drop-drop}
-use lib.Dec.{T, eqb}
-use borrow.Rule.Slice.PartMut.{putMid, midOf}
+use lib.Dec.{T}
+use borrow.Rule.Slice.PartMut.{putMid}
 use Rattle.codec.specs.Plain.{all, zeros}
 use Rattle.codec.specs.Code.{Code, byte, both, via, such, mark, markOf, upTo, putAll}
 use Rattle.codec.proofs.Lawful.{both-first}
-use Rattle.codec.proofs.Many.{putAll-long, upTo-lawful, upTo-count, upTo-each}
+use Rattle.codec.proofs.Many.{putAll-long, upTo-count, upTo-each}
 use Rattle.codec.proofs.Store.{given-out, dropped, added}
 use Rattle.machine.specs.Message.{Rec, shownAll}
 use Rattle.machine.specs.Channel.{Receiving}
 use Rattle.layout.specs.Record.{rec36, inCell}
 use Rattle.layout.specs.Memory.{receivingParts, receivingPart}
 use Rattle.layout.proofs.Memory.{in-lawful, shown-is}
-use Rattle.layout.proofs.Sizes.{in-size, queue-size}
+use Rattle.layout.proofs.Sizes.{in-size}
 
 -- ---- a part of a part
 

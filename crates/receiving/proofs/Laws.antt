@@ -7,21 +7,21 @@ use mathlib.Core.Bool.{Bool, true, false}
 use mathlib.Core.List.{List, [], _∷_, _++_}
 use lib.ListN.{length, getD, set, take, drop, length-set, length-drop}
 use lib.Seq.{drop-length, length-take-le}
-use lib.Dec.{T, eqb, ltb}
-use borrow.Rule.Slice.PartMut.{putMid, midOf, set-mid-at}
-use borrow.Author.Tests.{eq-eqb, ne-eqb, lt-ltb, le-ltb, ltb-true, ltb-false}
-use Rattle.codec.specs.Plain.{if_then_else_, zeros}
+use lib.Dec.{T, eqb}
+use borrow.Rule.Slice.PartMut.{putMid, midOf, set-mid-at, same-len-mid}
+use borrow.Author.Tests.{eq-eqb, ne-eqb, lt-ltb, le-ltb}
+use Rattle.codec.specs.Plain.{zeros}
 use Rattle.codec.specs.Code.{markOf}
 use Rattle.machine.specs.Codes.{codeOf}
 use Rattle.machine.specs.Message.{Rec, shownAll}
-use Rattle.machine.specs.Channel.{Chan, opened, Open, Receiving, withReceiving, read, says, arrive, onOpen, onRead, reading, readCode, shorter, unless}
+use Rattle.machine.specs.Channel.{Chan, Open, Receiving, withReceiving, read, arrive, onOpen, onRead, reading, readCode, shorter, unless}
 use Rattle.layout.specs.Record.{rec36}
 use Rattle.layout.specs.Memory.{receivingPart, region}
 use Rattle.layout.specs.Promise.{Opened, gives, callOutcome}
 use Rattle.layout.proofs.Memory.{receiving-lawful}
 use Rattle.layout.proofs.Sizes.{receiving-size}
 use Rattle.layout.proofs.Region.{openOf, Part, byte-of, is-open, moves, stays, receiving-part}
-use Rattle.receiving.specs.Queue.{arrived, emptied, withoutOldest, roomAt, roomMade}
+use Rattle.receiving.specs.Queue.{arrived, emptied, withoutOldest}
 use Rattle.receiving.proofs.Bytes.{part-of-part, few, count-is, lost-is, one-more, one-lost, oldest-out, oldest-gone}
 
 -- ---- a receiving part by itself
@@ -49,6 +49,10 @@ module _ (flags : ℕ) (q : List ℕ) (long : length q ≡ 1154) (v : T (receivi
       ∙ oldest-gone flags part-of part-ok m ys (omega (arith, count)) (e ∙ ap₂ (λ (j : ℕ) (b : List ℕ). drop (m * 36) (take j (drop 1 b)) ++ zeros (m * 36)) k (sym part-put))
 
 -- ---- on the region of an open channel
+
+-- the same record in other words arrives
+pub as-record : (r r′ : List ℕ) (x y : Rec) → r′ ≡ region .put (arrived x (region .get r)) → x ≡ y → r′ ≡ region .put (arrived y (region .get r))
+as-record r r′ x y h e = h ∙ ap (λ (z : Rec). region .put (arrived z (region .get r))) e
 
 module _ (r : List ℕ) (f : Opened r) where
   abbrev o : Open
@@ -82,65 +86,41 @@ module _ (r : List ℕ) (f : Opened r) where
   unfolding arrived
   is-arrived y = ap (arrived y) (is-open r f)
 
-  is-free : (roomAt r ≡ 0 → ⊥) → ltb (getD r 1344 0) 32 ≡ true
-  unfolding roomAt
-  is-free n = go (ltb (getD r 1344 0) 32) refl n
-    where
-      go : (b : Bool) → ltb (getD r 1344 0) 32 ≡ b → ((if b then 1345 + getD r 1344 0 * 36 else 0) ≡ 0 → ⊥) → ltb (getD r 1344 0) 32 ≡ true
-      go true e n = e
-      go false e n = absurd (n refl)
-
-  is-full : roomAt r ≡ 0 → ltb (getD r 1344 0) 32 ≡ false
-  unfolding roomAt
-  is-full z = go (ltb (getD r 1344 0) 32) refl z
-    where
-      go : (b : Bool) → ltb (getD r 1344 0) 32 ≡ b → (if b then 1345 + getD r 1344 0 * 36 else 0) ≡ 0 → ltb (getD r 1344 0) 32 ≡ false
-      go true e z = absurd (omega arith)
-      go false e z = e
-
-  place-is : (roomAt r ≡ 0 → ⊥) → roomAt r ≡ 1344 + (1 + getD r 1344 0 * 36)
-  unfolding roomAt
-  place-is n = rw (is-free n) (omega arith)
-
-  full : (y : Rec) → roomAt r ≡ 0 → roomMade r ≡ region .put (arrived y (region .get r))
-  unfolding roomMade arrive
-  full y z =
-      let b = is-full z in
-      rw b
-      (sym (set-mid-at 1344 1154 1153 r 1 (omega (arith, part .long)))
+  pub is-lost : (y : Rec) → 32 ≤ getD r 1344 0 → set r 2497 1 ≡ region .put (arrived y (region .get r))
+  unfolding arrive
+  is-lost y h =
+      sym (set-mid-at 1344 1154 1153 r 1 (omega (arith, part .long)))
       ∙ part .becomes (set q 1153 1) (record { queue = xs; lost = true }) (ap (λ (m : List ℕ). set m 1153 1) (part .is) ∙ one-lost fl (o .receiving) fine)
-      ∙ ap (region .put) (sym (is-arrived y ∙ rw (ap (λ (k : ℕ). ltb k 32) (sym held) ∙ b) refl)))
+      ∙ ap (region .put) (sym (is-arrived y ∙ rw (le-ltb (length xs) 32 (omega (arith, held))) refl))
 
-  room : (y : Rec) (ys : List ℕ) → (roomAt r ≡ 0 → ⊥) → ys ≡ rec36 .put y → length ys ≡ 36 → putMid (roomAt r) 36 (roomMade r) ys ≡ region .put (arrived y (region .get r))
-  unfolding roomMade arrive
-  room y ys n e l =
-      let b = is-free n in
-      let small : length xs < 32 = omega (arith, held, ltb-true (getD r 1344 0) 32 b) in
-      let more : List ℕ = set q 0 (getD r 1344 0 + 1) in
-      let put : putMid (1 + getD r 1344 0 * 36) 36 more ys ≡ receivingPart fl .put (record { queue = xs ++ y ∷ []; lost = o .receiving .lost }) =
-      (λ i. putMid (1 + held i * 36) 36 (set (part .is i) 0 (held i + 1)) ys) ∙ one-more fl (o .receiving) fine y ys small e l in
-      rw b
-      (ap₂ (λ (a : ℕ) (s : List ℕ). putMid a 36 s ys) (place-is n) (sym (set-mid-at 1344 1154 0 r (getD r 1344 0 + 1) (omega (arith, part .long))))
-      ∙ part-of-part 1344 1154 (1 + getD r 1344 0 * 36) 36 r more ys (omega (arith, f .long)) (length-set q 0 (getD r 1344 0 + 1) ∙ part .long) (omega (arith, held))
-      ∙ part .becomes (putMid (1 + getD r 1344 0 * 36) 36 more ys) (record { queue = xs ++ y ∷ []; lost = o .receiving .lost }) put
-      ∙ ap (region .put) (sym (is-arrived y ∙ rw (lt-ltb (length xs) 32 small) refl)))
+  module _ (h : getD r 1344 0 < 32) where
+    abbrev at : ℕ
+    at = 1345 + getD r 1344 0 * 36
 
-  -- with what `make_room` says and leaves
-  module _ (at : ℕ) (r′ : List ℕ) (made : (at ≡ roomAt r) × (r′ ≡ roomMade r)) where
-    pub room-ends : (at ≡ 0 → ⊥) → at + 36 ≤ length r
-    room-ends n =
-        let a = made .0 in
-        let m : roomAt r ≡ 0 → ⊥ = λ z. n (a ∙ z) in
-        omega (arith, f .long, place-is m, ltb-true (getD r 1344 0) 32 (is-free m))
+    abbrev counted : List ℕ
+    counted = set r 1344 (getD r 1344 0 + 1)
 
-    pub is-lost : (y : Rec) → at ≡ 0 → r′ ≡ region .put (arrived y (region .get r))
-    is-lost y z = made .1 ∙ full y (sym (made .0) ∙ z)
+    pub ends : at + 36 ≤ length counted
+    ends = omega (arith, length-set r 1344 (getD r 1344 0 + 1), f .long)
 
-    pub is-last : (y : Rec) (ys : List ℕ) → (at ≡ 0 → ⊥) → length r′ ≡ length r → ys ≡ rec36 .put y → length ys ≡ length (midOf at (at + 36 - at) r′) → putMid at (at + 36 - at) r′ ys ≡ region .put (arrived y (region .get r))
-    is-last y ys n s e l =
-        let k : at + 36 - at ≡ 36 = omega arith in
-        let long : length ys ≡ 36 = l ∙ length-take-le (at + 36 - at) (drop at r′) (omega (arith, length-drop at r′, room-ends n)) ∙ k in
-        (λ i. putMid (made .0 i) (k i) (made .1 i) ys) ∙ room y ys (λ z. n (made .0 ∙ z)) e long
+    pub keeps : (ys : List ℕ) → length ys ≡ length (midOf at (at + 36 - at) counted) → length (putMid at (at + 36 - at) counted ys) ≡ length r
+    keeps ys l = same-len-mid at (at + 36 - at) counted ys l ∙ length-set r 1344 (getD r 1344 0 + 1)
+
+    pub is-last : (y : Rec) (ys : List ℕ) → ys ≡ rec36 .put y → length ys ≡ length (midOf at (at + 36 - at) counted) → putMid at (at + 36 - at) counted ys ≡ region .put (arrived y (region .get r))
+    unfolding arrive
+    is-last y ys e l =
+        let a : ℕ = 1 + getD r 1344 0 * 36 in
+        let place : at ≡ 1344 + a = omega arith in
+        let size : at + 36 - at ≡ 36 = omega arith in
+        let long : length ys ≡ 36 = l ∙ length-take-le (at + 36 - at) (drop at counted) (omega (arith, length-drop at counted, ends)) ∙ size in
+        let small : length xs < 32 = omega (arith, held) in
+        let more : List ℕ = set q 0 (getD r 1344 0 + 1) in
+        let put : putMid a 36 more ys ≡ receivingPart fl .put (record { queue = xs ++ y ∷ []; lost = o .receiving .lost }) =
+        (λ i. putMid (1 + held i * 36) 36 (set (part .is i) 0 (held i + 1)) ys) ∙ one-more fl (o .receiving) fine y ys small e long in
+        (λ i. putMid (place i) (size i) (sym (set-mid-at 1344 1154 0 r (getD r 1344 0 + 1) (omega (arith, part .long))) i) ys)
+        ∙ part-of-part 1344 1154 a 36 r more ys (omega (arith, f .long)) (length-set q 0 (getD r 1344 0 + 1) ∙ part .long) (omega arith)
+        ∙ part .becomes (putMid a 36 more ys) (record { queue = xs ++ y ∷ []; lost = o .receiving .lost }) put
+        ∙ ap (region .put) (sym (is-arrived y ∙ rw (lt-ltb (length xs) 32 small) refl))
 
   -- ---- read
 

@@ -13,47 +13,40 @@ ghost use Rattle.machine.specs.Channel.{read as readOf};
 ghost use Rattle.layout.specs.Record.{rec36};
 ghost use Rattle.layout.specs.Memory.{receivingPart, region};
 ghost use Rattle.layout.specs.Promise.{Opened, gives, callOutcome};
-ghost use Rattle.message.specs.Cell.{Outgoing};
-ghost use Rattle.receiving.specs.Queue.{arrived, emptied, withoutOldest, roomAt, roomMade};
+ghost use Rattle.receiving.specs.Queue.{arrived, emptied, withoutOldest, Outgoing};
 
-// Raises the count and says where the new record begins. Where 32 are held, sets the lost mark and says 0.
-fn make_room(r: &mut [u8]) -> usize
-    requires { ⌜ length (now r) ≡ 2498 ⌝ }
-    ensures { λ a. ⌜ (a ≡ roomAt (now (r .entry))) × (now (r .exit) ≡ roomMade (now (r .entry))) ⌝ }
+// The record of a frame with its RxStatus arrives: it is the last, or where 32 are held it is dropped and the lost mark is set.
+fn arrive(r: &mut [u8], clock: u32, rx: u32, id: u32, bytes: &[u8])
+    requires { ⌜ Opened (now r) × (length (now bytes) ≤ 8) ⌝ }
+    ensures { λ u. ⌜ now (r .exit) ≡ region .put (arrived (received clock rx (idBytes id ++ now (bytes .entry))) (region .get (now (r .entry)))) ⌝ }
 {
     let held = r[1344];
     if held < 32 {
         r[1344] = held + 1;
-        return 1345 + held as usize * 36;
+        let at = 1345 + held as usize * 36;
+        let end = at + 36;
+        message::put_received(&mut r[at..end], clock, rx, id, bytes);
+        return;
     }
     r[2497] = 1;
-    0
 }
 
-// A frame that width and filters let in, received at a clock: its record is the last, or is lost.
+// A frame that width and filters let in is received at a clock.
 pub fn receive(r: &mut [u8], clock: u32, wide: bool, id: u32, bytes: &[u8])
     requires { ⌜ Opened (now r) × (length (now bytes) ≤ 8) ⌝ }
     ensures { λ u. ⌜ now (r .exit) ≡ region .put (arrived (received clock (widthFlag wide) (idBytes id ++ now (bytes .entry))) (region .get (now (r .entry)))) ⌝ }
 {
-    let at = make_room(r);
-    if at == 0 {
-        return;
-    }
-    let end = at + 36;
-    message::put_received(&mut r[at..end], clock, wide, id, bytes);
+    arrive(r, clock, message::width_flag(wide), id, bytes);
 }
 
-// A record that was sent, 36 bytes: as if received at a clock but with RxStatus bit 0 set, it is the last, or is lost.
+// A record that was sent, its 36 bytes, arrives at a clock as if received, but with RxStatus bit 0 set.
 pub fn echo(r: &mut [u8], clock: u32, sent: &[u8])
     requires { ⌜ Opened (now r) × Outgoing (now sent) ⌝ }
     ensures { λ u. ⌜ now (r .exit) ≡ region .put (arrived (received clock (rec36 .get (now (sent .entry)) .tx + 1) (rec36 .get (now (sent .entry)) .bytes)) (region .get (now (r .entry)))) ⌝ }
 {
-    let at = make_room(r);
-    if at == 0 {
-        return;
-    }
-    let end = at + 36;
-    message::put_echo(&mut r[at..end], clock, sent);
+    let rx = octets::word_at(sent, 8) + 1;
+    let end = 24 + octets::word_at(sent, 16) as usize;
+    arrive(r, clock, rx, octets::id_at(sent, 24), &sent[28..end]);
 }
 
 // The m oldest records of a receiving part go: the others move to the front, zeros behind them. The lost mark is cleared.

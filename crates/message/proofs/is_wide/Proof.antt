@@ -1,7 +1,5 @@
 -- `message::is_wide` meets its contract. Assumes nothing.
 use mathlib.Core.Path.{ap}
-use Prim.Native.Nat.{ℕ}
-use lib.Dec.{eqb}
 use Rattle.machine.specs.Message.{wideOf, txFlagsOf, bit}
 use borrow.Author.Needs.{needs}
 use Rattle.message.proofs.is_wide.Statement.{statement}

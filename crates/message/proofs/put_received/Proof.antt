@@ -6,11 +6,12 @@ use Rattle.message.proofs.put_received.Statement.{statement}
 use Rattle.message.proofs.put_received.Tie as tie
 
 returns : tie.Need-returns
-returns c = let start = c .before .before .before .before .before .before .before .before .before .before .before in
+returns c =
+    let start = c .before .before .before .before .before .before .before .before .before .before in
     let args = start .args in
     let head = c .before .before .before .before .before .before .put-numbers in
     let tail = c .before .before .put-frame in
-    received-put (args .cell .now) (head .last .0) (tail .last .0) (args .clock) _ _ (args .wide) (args .id) (args .bytes .now) (start .pre .0) (c .before .before .before .before .before .before .before .before .width-flag .ensures) refl (head .ensures) (tail .ensures)
+    received-put (args .cell .now) (head .last .0) (tail .last .0) (args .clock) (args .rx) _ (args .id) (args .bytes .now) (start .pre .0) refl (head .ensures) (tail .ensures)
 
 pub put-received-spec : {M : Type 1} → statement M
 put-received-spec =
@@ -18,7 +19,6 @@ put-received-spec =
     (tie.spec
     (λ c. search needs)
     (λ c. search needs)
-    (λ c κs. search needs)
     (λ c. search needs)
     (λ c. search needs)
     (λ c. search needs)

@@ -1,6 +1,6 @@
 -- `receiving::read_in` meets its contract: short, none asked for, or the oldest given out. Assumes nothing.
 use mathlib.Core.Path.{_≡_, ap, _∙_}
-use Prim.Native.Nat.{ℕ, min}
+use Prim.Native.Nat.{min}
 use native.Mathlib.Omega.{arith}
 use lib.ListN.{getD, take, drop}
 use Rattle.machine.specs.Codes.{threeRates}
