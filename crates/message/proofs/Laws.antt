@@ -2,15 +2,16 @@
 use mathlib.Core.Path.{_≡_, refl, sym, ap, ap₂, _∙_}
 use Prim.Native.Nat.{ℕ, _+_, _-_, _≤_, _<_}
 use native.Mathlib.Omega.{arith}
-use mathlib.Core.Bool.{Bool, true, false, not}
+use mathlib.Core.Bool.{Bool, true, false, not, _&&_}
 use mathlib.Core.List.{List, [], _++_, append-nil}
 use lib.ListN.{length, getD, take, drop, length-append, length-drop, drop-of-length-le}
 use lib.Seq.{take-at, drop-at, drop-drop, getD-take, length-take-le}
-use lib.Dec.{eqb, ltb}
+use lib.Dec.{T, eqb, leb, ltb, leb→le}
 use borrow.Author.Tests.{le-leb, lt-leb}
 use borrow.Rule.Slice.PartMut.{putMid, midOf}
 use Rattle.codec.specs.Plain.{if_then_else_, within, zeros}
 use Rattle.codec.specs.Word.{word, wordAt}
+use Rattle.codec.proofs.Tests.{left, right, true-T}
 use Rattle.machine.specs.Codes.{codeOf}
 use Rattle.machine.specs.Message.{takes, idOf, idLimit, idBytes, widthFlag, Rec, twelve, shown, protocolOf, sizeOf, wideOf, dataOf, messageCode, clean, received}
 use Rattle.layout.specs.Record.{rec36}
@@ -19,10 +20,14 @@ use Rattle.message.specs.Cell.{numbers, padded}
 
 -- ---- the checks
 
+-- the code by the four tests: protocol, size, width fit; the identifier is over its limit
+abbrev pub coded : Bool → Bool → Bool → Bool → ℕ
+coded protocol size width over = if not protocol then 0x15 else if not size then 0x0A else if not width then 0x0A else if over then 0x0A else 0x00
+
 pub checks : (flags : ℕ) (m : List ℕ) {a b c d : Bool} → eqb (wordAt 0 m) 5 ≡ a → within 4 12 (wordAt 16 m) ≡ b → takes flags (wideOf m) ≡ c → ltb (idLimit (wideOf m)) (idOf (dataOf m)) ≡ d
-    → (if not a then 0x15 else if not b then 0x0A else if not c then 0x0A else if d then 0x0A else 0x00) ≡ messageCode flags m
+    → coded a b c d ≡ messageCode flags m
 unfolding messageCode codeOf protocolOf sizeOf
-checks flags m p q r s = sym (λ i. if not (p i) then 0x15 else if not (q i) then 0x0A else if not (r i) then 0x0A else if s i then 0x0A else 0x00)
+checks flags m p q r s = sym (λ i. coded (p i) (q i) (r i) (s i))
 
 pub too-small : (n : ℕ) → n < 4 → within 4 12 n ≡ false
 unfolding within
@@ -35,6 +40,19 @@ too-large n g h = rw (le-leb 4 n g) (rw (lt-leb n 12 h))
 pub good-size : (n : ℕ) → 4 ≤ n → n ≤ 12 → within 4 12 n ≡ true
 unfolding within
 good-size n g h = rw (le-leb 4 n g) (rw (le-leb n 12 h))
+
+-- the size of a message without a code
+no-code : (a b c d : Bool) → coded a b c d ≡ 0 → b ≡ true
+no-code false b c d h = absurd (omega arith)
+no-code true false c d h = absurd (omega arith)
+no-code true true c d h = refl
+
+pub size-of-good : (flags : ℕ) (m : List ℕ) → messageCode flags m ≡ 0 → (4 ≤ sizeOf m) × (sizeOf m ≤ 12)
+unfolding sizeOf within
+size-of-good flags m h =
+    let n : ℕ = wordAt 16 m in
+    let t : T (leb 4 n && leb n 12) = true-T (leb 4 n && leb n 12) (no-code (eqb (wordAt 0 m) 5) (within 4 12 n) (takes flags (wideOf m)) (ltb (idLimit (wideOf m)) (idOf (dataOf m))) (checks flags m refl refl refl refl ∙ h)) in
+    (leb→le 4 n (left (leb 4 n) (leb n 12) t), leb→le n 12 (right (leb 4 n) (leb n 12) t))
 
 pub id-of-data : (m : List ℕ) → 4 ≤ wordAt 16 m → idOf (dataOf m) ≡ idOf (drop 24 m)
 unfolding idOf dataOf sizeOf

@@ -75,7 +75,7 @@ fn put_padded(d: &mut [u8], b: &[u8])
 
 // The clean record of a message whose size is good, into a cell.
 pub fn put_clean(cell: &mut [u8], m: &[u8])
-    requires { ⌜ (length (now cell) ≡ 36) × (36 ≤ length (now m)) × (4 ≤ sizeOf (now m)) × (sizeOf (now m) ≤ 12) ⌝ }
+    requires { ⌜ (length (now cell) ≡ 36) × (36 ≤ length (now m)) × (sizeOf (now m) ≤ 12) ⌝ }
     ensures { λ r. ⌜ now (cell .exit) ≡ rec36 .put (clean (now (m .entry))) ⌝ }
 {
     let size = octets::word_at(m, 16);

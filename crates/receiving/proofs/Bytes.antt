@@ -7,7 +7,7 @@ use native.Mathlib.Omega.{arith}
 use mathlib.Core.Bool.{Bool, true, false}
 use mathlib.Core.List.{List, [], _∷_, _++_, append-assoc}
 use lib.ListN.{length, getD, set, take, drop, length-append, length-drop, length-replicate, replicate-append-replicate}
-use lib.Seq.{take-at, drop-at, take-append-le, drop-append-le, take-append-add, drop-append-add, getD-at, set-at, length-take-le, drop-drop}
+use lib.Seq.{take-at, drop-at, take-append-le, drop-append-le, getD-at, set-at, drop-drop}
 use lib.Dec.{T}
 use borrow.Rule.Slice.PartMut.{putMid}
 use Rattle.codec.specs.Plain.{all, zeros}
@@ -22,25 +22,12 @@ use Rattle.layout.specs.Memory.{receivingParts, receivingPart}
 use Rattle.layout.proofs.Memory.{in-lawful, shown-is}
 use Rattle.layout.proofs.Sizes.{in-size}
 
--- ---- a part of a part
-
 -- what is put into a first part leaves what follows it
 part-of-first : (a k : ℕ) (s r ys : List ℕ) → a + k ≤ length s → putMid a k (s ++ r) ys ≡ putMid a k s ys ++ r
 part-of-first a k s r ys h =
     ap₂ (λ (x y : List ℕ). x ++ (ys ++ y)) (take-append-le a s r (omega arith))
     (ap (λ (x : List ℕ). drop k x) (drop-append-le a s r (omega arith)) ∙ drop-append-le k (drop a s) r (omega (arith, length-drop a s)))
     ∙ simp append-assoc
-
--- a part of a part of a list is a part of the list
-pub part-of-part : (o n a k : ℕ) (r q ys : List ℕ) → o ≤ length r → length q ≡ n → a + k ≤ n → putMid (o + a) k (putMid o n r q) ys ≡ putMid o n r (putMid a k q ys)
-part-of-part o n a k r q ys h l f =
-    let p : List ℕ = take o r in
-    let d : List ℕ = drop n (drop o r) in
-    let e : o + a ≡ length p + a = omega (arith, length-take-le o r h) in
-    ap (λ (j : ℕ). putMid j k (p ++ (q ++ d)) ys) e
-    ∙ ap₂ (λ (x y : List ℕ). x ++ (ys ++ drop k y)) (take-append-add p (q ++ d) a) (drop-append-add p (q ++ d) a)
-    ∙ append-assoc p (take a (q ++ d)) (ys ++ drop k (drop a (q ++ d)))
-    ∙ ap (λ (x : List ℕ). p ++ x) (part-of-first a k q d ys (omega arith))
 
 -- zeros in two pieces, either one first
 swap : (xs : List ℕ) (a b : ℕ) → (xs ++ zeros a) ++ zeros b ≡ (xs ++ zeros b) ++ zeros a
@@ -104,18 +91,16 @@ module _ (flags : ℕ) (x : Receiving) (t : T (receivingPart flags .ok x)) where
 
   -- ARRIVE: one record more
   pub one-more : (y : Rec) (ys : List ℕ) → length (x .queue) < 32 → ys ≡ rec36 .put y → length ys ≡ 36
-      → putMid (1 + length (x .queue) * 36) 36 (set (receivingPart flags .put x) 0 (length (x .queue) + 1)) ys ≡ receivingPart flags .put (record { queue = x .queue ++ y ∷ []; lost = x .lost })
+      → set (putMid (1 + length (x .queue) * 36) 36 (receivingPart flags .put x) ys) 0 (length (x .queue) + 1) ≡ receivingPart flags .put (record { queue = x .queue ++ y ∷ []; lost = x .lost })
   unfolding inCell such
   one-more y ys h e l =
       let end : List ℕ = markOf (x .lost) ∷ [] in
       let over : ℕ → List ℕ → List ℕ → List ℕ = λ k s w. (n + 1) ∷ (take (n * k) (drop 1 s) ++ (w ++ drop (n * k + k) (drop 1 s))) in
-      let put : putMid (1 + n * 36) 36 ((n + 1) ∷ body) ys ≡ upTo 32 cell .put (x .queue ++ y ∷ []) =
-      rw (one-add (n * 36)) (ap {B = List ℕ} (λ (d : List ℕ). (n + 1) ∷ (take (n * 36) body ++ (ys ++ d))) (drop-drop 36 (n * 36) body))
-      ∙ (λ i. over (sym (in-size flags) i) (sym store-is i) (e i))
-      ∙ added (in-lawful flags) 32 (x .queue) each y (sym (ap length e) ∙ l ∙ sym (in-size flags)) h in
-      ap (λ (q : List ℕ). putMid (1 + n * 36) 36 (set q 0 (n + 1)) ys) bytes-are
-      ∙ part-of-first (1 + n * 36) 36 ((n + 1) ∷ body) end ys (omega (arith, body-long))
-      ∙ ap (λ (q : List ℕ). q ++ end) put
+      let put : putMid (1 + n * 36) 36 (n ∷ body) ys ≡ n ∷ (take (n * 36) body ++ (ys ++ drop (n * 36 + 36) body)) =
+      rw (one-add (n * 36)) (ap {B = List ℕ} (λ (d : List ℕ). n ∷ (take (n * 36) body ++ (ys ++ d))) (drop-drop 36 (n * 36) body)) in
+      ap (λ (q : List ℕ). set (putMid (1 + n * 36) 36 q ys) 0 (n + 1)) bytes-are
+      ∙ ap (λ (q : List ℕ). set q 0 (n + 1)) (part-of-first (1 + n * 36) 36 (n ∷ body) end ys (omega (arith, body-long)) ∙ ap (λ (q : List ℕ). q ++ end) put)
+      ∙ ap (λ (q : List ℕ). q ++ end) ((λ i. over (sym (in-size flags) i) (sym store-is i) (e i)) ∙ added (in-lawful flags) 32 (x .queue) each y (sym (ap length e) ∙ l ∙ sym (in-size flags)) h)
       ∙ sym (put-is (x .queue ++ y ∷ []) (x .lost))
 
   -- ARRIVE: none

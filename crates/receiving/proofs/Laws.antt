@@ -5,13 +5,14 @@ use Prim.Native.Nat.{ℕ, _+_, _*_, _-_, _≤_, _<_, min}
 use native.Mathlib.Omega.{arith}
 use mathlib.Core.Bool.{Bool, true, false}
 use mathlib.Core.List.{List, [], _∷_, _++_}
-use lib.ListN.{length, getD, set, take, drop, length-set, length-drop}
+use lib.ListN.{length, getD, set, take, drop, length-drop}
 use lib.Seq.{drop-length, length-take-le}
 use lib.Dec.{T, eqb}
-use borrow.Rule.Slice.PartMut.{putMid, midOf, set-mid-at, same-len-mid}
+use borrow.Rule.Slice.PartMut.{putMid, midOf}
 use borrow.Author.Tests.{eq-eqb, ne-eqb, lt-ltb, le-ltb}
 use Rattle.codec.specs.Plain.{zeros}
-use Rattle.codec.specs.Code.{markOf}
+use Rattle.codec.specs.Code.{byte, via, such, mark}
+use Rattle.codec.proofs.Lawful.{mark-lawful, mark-ok}
 use Rattle.machine.specs.Codes.{codeOf}
 use Rattle.machine.specs.Message.{Rec, shownAll}
 use Rattle.machine.specs.Channel.{Chan, Open, Receiving, withReceiving, read, arrive, onOpen, onRead, reading, readCode, shorter, unless}
@@ -20,9 +21,9 @@ use Rattle.layout.specs.Memory.{receivingPart, region}
 use Rattle.layout.specs.Promise.{Opened, gives, callOutcome}
 use Rattle.layout.proofs.Memory.{receiving-lawful}
 use Rattle.layout.proofs.Sizes.{receiving-size}
-use Rattle.layout.proofs.Region.{openOf, Part, byte-of, is-open, moves, stays, receiving-part}
+use Rattle.layout.proofs.Region.{openOf, Part, is-open, moves, stays, receiving-part}
 use Rattle.receiving.specs.Queue.{arrived, emptied, withoutOldest}
-use Rattle.receiving.proofs.Bytes.{part-of-part, few, count-is, lost-is, one-more, one-lost, oldest-out, oldest-gone}
+use Rattle.receiving.proofs.Bytes.{few, count-is, lost-is, one-more, one-lost, oldest-out, oldest-gone}
 
 -- ---- a receiving part by itself
 
@@ -73,12 +74,13 @@ module _ (r : List ℕ) (f : Opened r) where
   fine : T (receivingPart fl .ok (o .receiving))
   fine = subst (λ (x : Receiving). T (receivingPart fl .ok x)) (part .got) (part-ok fl q (part .long) (part .valid))
 
-  -- the count and the lost mark, in the region and in the part
-  held : getD r 1344 0 ≡ length xs
-  held = byte-of part 0 (omega arith) ∙ count-is fl (o .receiving) fine
+  -- the count and the lost mark
+  held : getD q 0 0 ≡ length xs
+  held = ap (λ (m : List ℕ). getD m 0 0) (part .is) ∙ count-is fl (o .receiving) fine
 
-  held-few : getD r 1344 0 ≤ 32
-  held-few = omega (arith, held, few fl (o .receiving) fine)
+  lost : eqb 1 (getD q 1153 0) ≡ o .receiving .lost
+  unfolding mark via such byte
+  lost = ap (λ (m : List ℕ). eqb 1 (getD m 1153 0)) (part .is) ∙ ap (eqb 1) (lost-is fl (o .receiving) fine) ∙ mark-lawful .get-put (o .receiving .lost) (mark-ok (o .receiving .lost))
 
   -- ---- a record arrives
 
@@ -86,60 +88,29 @@ module _ (r : List ℕ) (f : Opened r) where
   unfolding arrived
   is-arrived y = ap (arrived y) (is-open r f)
 
-  pub is-lost : (y : Rec) → 32 ≤ getD r 1344 0 → set r 2497 1 ≡ region .put (arrived y (region .get r))
+  pub is-lost : (y : Rec) → 32 ≤ getD q 0 0 → putMid 1344 1154 r (set q 1153 1) ≡ region .put (arrived y (region .get r))
   unfolding arrive
   is-lost y h =
-      sym (set-mid-at 1344 1154 1153 r 1 (omega (arith, part .long)))
-      ∙ part .becomes (set q 1153 1) (record { queue = xs; lost = true }) (ap (λ (m : List ℕ). set m 1153 1) (part .is) ∙ one-lost fl (o .receiving) fine)
+      part .becomes (set q 1153 1) (record { queue = xs; lost = true }) (ap (λ (m : List ℕ). set m 1153 1) (part .is) ∙ one-lost fl (o .receiving) fine)
       ∙ ap (region .put) (sym (is-arrived y ∙ rw (le-ltb (length xs) 32 (omega (arith, held))) refl))
 
-  module _ (h : getD r 1344 0 < 32) where
-    abbrev at : ℕ
-    at = 1345 + getD r 1344 0 * 36
-
-    abbrev counted : List ℕ
-    counted = set r 1344 (getD r 1344 0 + 1)
-
-    pub ends : at + 36 ≤ length counted
-    ends = omega (arith, length-set r 1344 (getD r 1344 0 + 1), f .long)
-
-    pub keeps : (ys : List ℕ) → length ys ≡ length (midOf at (at + 36 - at) counted) → length (putMid at (at + 36 - at) counted ys) ≡ length r
-    keeps ys l = same-len-mid at (at + 36 - at) counted ys l ∙ length-set r 1344 (getD r 1344 0 + 1)
-
-    pub is-last : (y : Rec) (ys : List ℕ) → ys ≡ rec36 .put y → length ys ≡ length (midOf at (at + 36 - at) counted) → putMid at (at + 36 - at) counted ys ≡ region .put (arrived y (region .get r))
-    unfolding arrive
-    is-last y ys e l =
-        let a : ℕ = 1 + getD r 1344 0 * 36 in
-        let place : at ≡ 1344 + a = omega arith in
-        let size : at + 36 - at ≡ 36 = omega arith in
-        let long : length ys ≡ 36 = l ∙ length-take-le (at + 36 - at) (drop at counted) (omega (arith, length-drop at counted, ends)) ∙ size in
-        let small : length xs < 32 = omega (arith, held) in
-        let more : List ℕ = set q 0 (getD r 1344 0 + 1) in
-        let put : putMid a 36 more ys ≡ receivingPart fl .put (record { queue = xs ++ y ∷ []; lost = o .receiving .lost }) =
-        (λ i. putMid (1 + held i * 36) 36 (set (part .is i) 0 (held i + 1)) ys) ∙ one-more fl (o .receiving) fine y ys small e long in
-        (λ i. putMid (place i) (size i) (sym (set-mid-at 1344 1154 0 r (getD r 1344 0 + 1) (omega (arith, part .long))) i) ys)
-        ∙ part-of-part 1344 1154 a 36 r more ys (omega (arith, f .long)) (length-set q 0 (getD r 1344 0 + 1) ∙ part .long) (omega arith)
-        ∙ part .becomes (putMid a 36 more ys) (record { queue = xs ++ y ∷ []; lost = o .receiving .lost }) put
-        ∙ ap (region .put) (sym (is-arrived y ∙ rw (lt-ltb (length xs) 32 small) refl))
+  pub is-last : (y : Rec) (ys : List ℕ) → getD q 0 0 < 32 → ys ≡ rec36 .put y → length ys ≡ length (midOf (1 + getD q 0 0 * 36) (1 + getD q 0 0 * 36 + 36 - (1 + getD q 0 0 * 36)) q)
+      → putMid 1344 1154 r (set (putMid (1 + getD q 0 0 * 36) (1 + getD q 0 0 * 36 + 36 - (1 + getD q 0 0 * 36)) q ys) 0 (getD q 0 0 + 1)) ≡ region .put (arrived y (region .get r))
+  unfolding arrive
+  is-last y ys h e l =
+      let at : ℕ = 1 + getD q 0 0 * 36 in
+      let size : at + 36 - at ≡ 36 = omega arith in
+      let long : length ys ≡ 36 = l ∙ length-take-le (at + 36 - at) (drop at q) (omega (arith, length-drop at q, part .long)) ∙ size in
+      let small : length xs < 32 = omega (arith, held) in
+      part .becomes _ (record { queue = xs ++ y ∷ []; lost = o .receiving .lost })
+      ((λ i. set (putMid (1 + held i * 36) (size i) (part .is i) ys) 0 (held i + 1)) ∙ one-more fl (o .receiving) fine y ys small e long)
+      ∙ ap (region .put) (sym (is-arrived y ∙ rw (lt-ltb (length xs) 32 small) refl))
 
   -- ---- read
 
-  in-part : (i : ℕ) → i < 1154 → getD q i 0 ≡ getD (receivingPart fl .put (o .receiving)) i 0
-  in-part i h = ap (λ (m : List ℕ). getD m i 0) (part .is)
-
-  pub part-held : getD q 0 0 ≡ length xs
-  part-held = in-part 0 (omega arith) ∙ count-is fl (o .receiving) fine
-
   -- what `drop_oldest` asks
   pub part-lent : (m : ℕ) → m ≤ getD q 0 0 → (length q ≡ 1154) × (m ≤ getD q 0 0) × (getD q 0 0 ≤ 32)
-  part-lent m h = (part .long, h, omega (arith, part-held, few fl (o .receiving) fine))
-
-  mark-back : (b : Bool) → eqb 1 (markOf b) ≡ b
-  mark-back true = refl
-  mark-back false = refl
-
-  part-lost : eqb 1 (getD q 1153 0) ≡ o .receiving .lost
-  part-lost = ap (eqb 1) (in-part 1153 (omega arith) ∙ lost-is fl (o .receiving) fine) ∙ mark-back (o .receiving .lost)
+  part-lent m h = (part .long, h, omega (arith, held, few fl (o .receiving) fine))
 
   -- the region without the m oldest
   without : (m : ℕ) (ys : List ℕ) → ys ≡ receivingPart fl .put (withoutOldest m (receivingPart fl .get q)) → putMid 1344 1154 r ys ≡ region .put (withReceiving o (drop m xs) false)
@@ -159,8 +130,8 @@ module _ (r : List ℕ) (f : Opened r) where
         → ys ≡ receivingPart fl .put (withoutOldest m (receivingPart fl .get q)) → gives code m (bs ++ drop (m * 36 - 0) b) (putMid 1344 1154 r ys) ≡ callOutcome rates now r (read n b)
     unfolding onOpen onRead unless codeOf shorter reading
     read-some s z m code bs ys em ec eb ey =
-        let m′ : m ≡ min n (length xs) = em ∙ ap (min n) part-held in
-        let c′ : code ≡ readCode (o .receiving .lost) n m = ec ∙ ap (λ (l : Bool). readCode l n m) part-lost in
+        let m′ : m ≡ min n (length xs) = em ∙ ap (min n) held in
+        let c′ : code ≡ readCode (o .receiving .lost) n m = ec ∙ ap (λ (l : Bool). readCode l n m) lost in
         let j′ : 1 + m * 36 - 1 ≡ m * 36 = omega arith in
         let k′ : m * 36 - 0 ≡ 36 * m = omega arith in
         let given : bs ≡ shownAll (take m xs) =
@@ -175,5 +146,5 @@ module _ (r : List ℕ) (f : Opened r) where
   unfolding emptied
   cleared m ys e ey =
       without m ys ey
-      ∙ ap (λ (x : List Rec). region .put (withReceiving o x false)) (ap (λ (k : ℕ). drop k xs) (e ∙ part-held) ∙ drop-length xs)
+      ∙ ap (λ (x : List Rec). region .put (withReceiving o x false)) (ap (λ (k : ℕ). drop k xs) (e ∙ held) ∙ drop-length xs)
       ∙ ap (λ (c : Chan). region .put (emptied c)) (sym (is-open r f))

@@ -1,5 +1,4 @@
-// What is received: a record more in the queue of an open channel, or the lost mark; reading; clearing. The receiving part of a region is its last
-// 1,154 bytes: the count, 32 cells of 36 bytes, the lost mark.
+// What is received: a record more in the queue of an open channel, or the lost mark; reading; clearing.
 use codes::Answer;
 ghost use mathlib.Core.Path.{_≡_};
 ghost use mathlib.Core.List.{_++_};
@@ -15,20 +14,32 @@ ghost use Rattle.layout.specs.Memory.{receivingPart, region};
 ghost use Rattle.layout.specs.Promise.{Opened, gives, callOutcome};
 ghost use Rattle.receiving.specs.Queue.{arrived, emptied, withoutOldest, Outgoing};
 
+// The receiving part of a region: the count, 32 cells of 36 bytes, the lost mark.
+const PART: usize = 1344;
+
+const END: usize = 2498;
+// In that part: the most records, a cell's size, the place of the lost mark.
+const MOST: u8 = 32;
+
+const CELL: usize = 36;
+
+const LOST: usize = 1153;
+
 // The record of a frame with its RxStatus arrives: it is the last, or where 32 are held it is dropped and the lost mark is set.
 fn arrive(r: &mut [u8], clock: u32, rx: u32, id: u32, bytes: &[u8])
     requires { ⌜ Opened (now r) × (length (now bytes) ≤ 8) ⌝ }
     ensures { λ u. ⌜ now (r .exit) ≡ region .put (arrived (received clock rx (idBytes id ++ now (bytes .entry))) (region .get (now (r .entry)))) ⌝ }
 {
-    let held = r[1344];
-    if held < 32 {
-        r[1344] = held + 1;
-        let at = 1345 + held as usize * 36;
-        let end = at + 36;
-        message::put_received(&mut r[at..end], clock, rx, id, bytes);
+    let q = &mut r[PART..END];
+    let held = q[0];
+    if held < MOST {
+        let at = 1 + held as usize * CELL;
+        let end = at + CELL;
+        message::put_received(&mut q[at..end], clock, rx, id, bytes);
+        q[0] = held + 1;
         return;
     }
-    r[2497] = 1;
+    q[LOST] = 1;
 }
 
 // A frame that width and filters let in is received at a clock.
@@ -55,10 +66,10 @@ fn drop_oldest(q: &mut [u8], m: usize)
     ensures { λ u. ⌜ ((flags : ℕ) → T (receivingPart flags .valid (now (q .entry))) → now (q .exit) ≡ receivingPart flags .put (withoutOldest m (receivingPart flags .get (now (q .entry))))) ⌝ }
 {
     let held = q[0];
-    let end = 1 + held as usize * 36;
-    octets::move_down(&mut q[1..end], m * 36);
+    let end = 1 + held as usize * CELL;
+    octets::move_down(&mut q[1..end], m * CELL);
     q[0] = held - m as u8;
-    q[1153] = 0;
+    q[LOST] = 0;
 }
 
 // The smaller of two numbers.
@@ -89,7 +100,7 @@ pub fn read_in(r: &mut [u8], n: u32, buf: &mut [u8]) -> Answer
     requires { ⌜ Opened (now r) ⌝ }
     ensures { λ a. ⌜ ((t : ℕ) → gives (a .code) (a .value) (now (buf .exit)) (now (r .exit)) ≡ callOutcome threeRates t (now (r .entry)) (readOf n (now (buf .entry)))) ⌝ }
 {
-    if buf.len() < 36 * (n as usize) {
+    if buf.len() < CELL * (n as usize) {
         return Answer {
             code: codes::ERR_NULL_PARAMETER,
             value: 0,
@@ -101,10 +112,10 @@ pub fn read_in(r: &mut [u8], n: u32, buf: &mut [u8]) -> Answer
             value: 0,
         };
     }
-    let q = &mut r[1344..2498];
+    let q = &mut r[PART..END];
     let m = fewest(n, octets::wide(q[0]));
-    let code = read_code(q[1153], n, m);
-    let k = m as usize * 36;
+    let code = read_code(q[LOST], n, m);
+    let k = m as usize * CELL;
     let end = 1 + k;
     octets::copy(&mut buf[0..k], &q[1..end]);
     drop_oldest(q, m as usize);
@@ -119,7 +130,7 @@ pub fn clear_queue(r: &mut [u8])
     requires { ⌜ Opened (now r) ⌝ }
     ensures { λ u. ⌜ now (r .exit) ≡ region .put (emptied (region .get (now (r .entry)))) ⌝ }
 {
-    let q = &mut r[1344..2498];
+    let q = &mut r[PART..END];
     let held = q[0] as usize;
     drop_oldest(q, held);
 }

@@ -1,29 +1,21 @@
 -- `receiving::arrive` meets its contract: the record is the last, or is lost. Assumes nothing.
 use mathlib.Core.List.{_++_}
 use Rattle.machine.specs.Message.{idBytes, Rec, received}
-use Rattle.receiving.proofs.Laws.{ends, keeps, is-lost, is-last}
+use Rattle.receiving.proofs.Laws.{is-lost, is-last}
 use borrow.Author.Needs.{needs}
 use Rattle.receiving.proofs.arrive.Statement.{statement}
 use Rattle.receiving.proofs.arrive.Tie as tie
 
-part-put-received-end : tie.Need-part-put-received-end
-part-put-received-end c = let start = c .before .before .before .before in ends (start .args .r .now) (start .pre .0) (c .if1 .taken)
-
-same-length : tie.Need-same-length
-same-length c =
-    let start = c .before .before .before .before .before .before .before .before in
-    let put = c .before .before .put-received in
-    keeps (start .args .r .now) (start .pre .0) (c .before .before .before .before .if1 .taken) (put .last .0) (put .kept .0)
-
 returns : tie.Need-returns
-returns c = let start = c .before .before .before .before .before .before .before .before in
+returns c =
+    let start = c .before .before .before .before .before .before .before .before .before .before .before in
     let args = start .args in
     let y : Rec = received (args .clock) (args .rx) (idBytes (args .id) ++ args .bytes .now) in
-    let put = c .before .before .put-received in
-    is-last (args .r .now) (start .pre .0) (c .before .before .before .before .if1 .taken) y (put .last .0) (put .ensures) (put .kept .0)
+    let put = c .before .before .before .before .put-received in
+    is-last (args .r .now) (start .pre .0) y (put .last .0) (c .before .before .before .before .before .before .if1 .taken) (put .ensures) (put .kept .0)
 
 returns-2 : tie.Need-returns-2
-returns-2 c = let start = c .before .before .before .before in is-lost (start .args .r .now) (start .pre .0) _ (c .if1 .left)
+returns-2 c = let start = c .before .before .before .before .before .before .before in is-lost (start .args .r .now) (start .pre .0) _ (c .before .before .if1 .left)
 
 pub arrive-spec : {M : Type 1} → statement M
 arrive-spec =
@@ -38,9 +30,12 @@ arrive-spec =
     (λ c. search needs)
     (λ c. search needs)
     (λ c. search needs)
-    part-put-received-end
+    (λ c. search needs)
+    (λ c. search needs)
     (λ c κs. search needs)
-    same-length
+    (λ c. search needs)
+    (λ c. search needs)
+    (λ c. search needs)
     returns
     (λ c. search needs)
     (λ c. search needs)
