@@ -1,3 +1,4 @@
 pub mod Next
 pub mod Held
+pub mod Moves
 pub mod Region

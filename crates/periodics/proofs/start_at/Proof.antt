@@ -1,0 +1,42 @@
+-- `periodics::start_at` meets its contract. Assumes nothing.
+use mathlib.Core.Path.{_≡_, refl}
+use Prim.Native.Nat.{ℕ, _+_, _*_, _-_}
+use native.Mathlib.Omega.{arith}
+use Rattle.codec.proofs.Lists.{bytes-of}
+use Rattle.periodics.proofs.Held.{start-stored}
+use Rattle.periodics.proofs.Region.{good-size}
+use borrow.Author.Needs.{needs}
+use Rattle.periodics.proofs.start_at.Statement.{statement}
+use Rattle.periodics.proofs.start_at.Tie as tie
+
+put-clean-requires : tie.Need-put-clean-requires
+put-clean-requires c κs =
+    let s = c .before .before .before .before .before .before .before .pre .0 in
+    let size = good-size (s .part .flags) _ (s .good) in
+    (search needs, s .long, size .0, size .1)
+
+returns : tie.Need-returns
+returns c =
+    let start = c .before .before .before .before .before .before .before .before .before .before in
+    let i = start .args .i in
+    let s = start .pre .0 in
+    let size : 90 + i * 36 + 36 - (90 + i * 36) ≡ 36 = omega arith in
+    λ flags.
+    start-stored (start .args .part .now) (s .part) i (start .pre .1) (c .before .before .before .before .before .before .put-timer .last .0) (90 + i * 36) _ (c .before .before .put-clean .last .0) refl size flags
+    (start .args .message .now) (start .args .interval) (search needs) (s .long) (bytes-of (start .args .message .now) (λ k. c .before .before .before .before .before .before .before .before .shared-slice-known .given k .fits)) (s .good)
+    (c .before .before .before .before .before .before .put-timer .ensures) (c .before .before .put-clean .ensures)
+
+pub start-at-spec : {M : Type 1} → statement M
+start-at-spec =
+    tie.close
+    (tie.spec
+    (λ c κs. search needs)
+    (λ c. search needs)
+    (λ c. search needs)
+    (λ c. search needs)
+    (λ c. search needs)
+    (λ c. search needs)
+    (λ c. search needs)
+    put-clean-requires
+    (λ c. search needs)
+    returns)
