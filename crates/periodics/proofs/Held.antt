@@ -1,8 +1,8 @@
 -- The part of a region that holds the periodics: its columns, what code reads in them, and the part with another periodic at a place. Assumes nothing.
-use mathlib.Core.Path.{_≡_, refl, sym, ap, ap₂, _∙_, subst}
-use Prim.Native.Nat.{ℕ, zero, suc, _+_, _*_, _^_, _≤_, _<_}
+use mathlib.Core.Path.{_≡_, refl, sym, ap, _∙_, subst}
+use Prim.Native.Nat.{ℕ, _+_, _*_, _^_, _≤_, _<_}
 use native.Mathlib.Omega.{arith}
-use mathlib.Core.Bool.{Bool, true, false}
+use mathlib.Core.Bool.{true, false}
 use mathlib.Core.Option.{Option, none, some}
 use mathlib.Core.List.{List, [], _∷_, map}
 use lib.Dec.{T, eqb}
@@ -12,7 +12,7 @@ use borrow.Rule.Slice.PartMut.{putMid}
 use borrow.Author.Tests.{eq-eqb, ne-eqb}
 use Rattle.codec.specs.Plain.{all, isByte, zeros}
 use Rattle.codec.specs.Word.{word, wordAt}
-use Rattle.codec.specs.Code.{Code, byte, word32, both, via, such, mark, markOf, many, vacant, putVacant, beside, eachVia}
+use Rattle.codec.specs.Code.{Code, byte, word32, both, via, such, mark, markOf, many, vacant, beside, eachVia}
 use Rattle.codec.proofs.Lists.{all-at}
 use Rattle.codec.proofs.Lawful.{Lawful, word-lawful, mark-lawful, mark-ok}
 use Rattle.codec.proofs.Many.{vacant-lawful}
@@ -269,7 +269,7 @@ module _ (m : List ℕ) (v : PeriodicPart m) where
       (λ l. let j : i < 10 = omega (arith, ten-held) in sym (pending-at i j) ∙ eq-eqb 1 (getD m (80 + i) 0) (sym (this j)))
       ∙ ap firstPending (any-get (v .flags) flags m)
 
-  -- the first empty place, found by its interval; `free-none-yet` holds before the first turn
+  -- the first empty place, found by its interval. The first i are taken, as `e` says, which holds at 0
   module _ (i : ℕ) (flags : ℕ) (e : free (periodics flags .get m) ≡ i + free (drop i (periodics flags .get m))) where
     ten : length (periodics flags .get m) ≡ 10
     ten = ap length (any-get flags (v .flags) m) ∙ ten-held

@@ -1,14 +1,14 @@
 -- Time goes on: one place, then the ten places one a turn. Assumes nothing.
 use mathlib.Core.Path.{_≡_, refl, sym, ap, ap₂, _∙_, subst}
-use Prim.Native.Nat.{ℕ, zero, suc, _+_, _*_, _%_, _^_, _≤_, _<_}
-use native.Mathlib.Nat.{mod-lt, mod-eq-of-lt, le-of-suc-le-suc}
+use Prim.Native.Nat.{ℕ, suc, _+_, _*_, _%_, _^_, _≤_, _<_}
+use native.Mathlib.Nat.{mod-lt, mod-eq-of-lt}
 use native.Mathlib.Numerals.{add-one}
 use native.Mathlib.Omega.{arith}
-use mathlib.Core.Bool.{Bool, true, false, _||_, or-true, or-false}
+use mathlib.Core.Bool.{Bool, true, _||_, or-true, or-false}
 use mathlib.Core.Option.{Option, none, some}
 use mathlib.Core.List.{List, [], _∷_, map}
 use lib.Dec.{T, eqb, eqb→eq}
-use lib.ListN.{length, getD, set, take, drop}
+use lib.ListN.{length, getD, set, take}
 use lib.Seq.{getD-take}
 use borrow.Author.Tests.{le-leb, lt-leb}
 use borrow.Rule.Slice.PartMut.{putMid}
@@ -28,7 +28,7 @@ use Rattle.layout.proofs.Sizes.{periodics-size}
 use Rattle.layout.proofs.Held.{periodicPlace, word-ok}
 use Rattle.layout.proofs.Calls.{later-ok}
 use Rattle.periodics.specs.Part.{PeriodicPart, changed}
-use Rattle.periodics.proofs.Held.{phases-cell, marks-cell, stored-long, any-get, changed-ok, held, held-ok, part-is, ten-held, heldAt, here, row-before, row-changed, interval-at, phase-at, empty-at, interval-small, phase-small}
+use Rattle.periodics.proofs.Held.{phases-cell, marks-cell, stored-long, any-get, changed-ok, held, held-ok, part-is, ten-held, heldAt, here, row-before, row-changed, interval-at, phase-at, empty-at, interval-small}
 
 -- ---- the row of a place, some microseconds later
 

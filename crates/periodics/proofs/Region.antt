@@ -1,25 +1,25 @@
 -- What the calls on periodics do to the bytes of a region is what the machine does to the channel. Assumes nothing.
-use mathlib.Core.Path.{_≡_, refl, sym, ap, ap₂, _∙_, subst}
+use mathlib.Core.Path.{_≡_, refl, sym, ap, _∙_, subst}
 use Prim.Native.Nat.{ℕ, zero, suc, _+_, _*_, _-_, _≤_, _<_}
 use native.Mathlib.Numerals.{add-one}
 use native.Mathlib.Omega.{arith}
 use mathlib.Core.Bool.{Bool, true, false, not}
-use mathlib.Core.Option.{Option, none, some}
+use mathlib.Core.Option.{none, some}
 use mathlib.Core.List.{List, [], _∷_, map}
 use lib.ListN.{length, getD, set, take, drop, List·getD-eq-default}
 use lib.Seq.{take-take, drop-drop}
 use lib.Dec.{T, eqb, leb}
-use borrow.Author.Tests.{le-leb, lt-leb, le-ltb, lt-ltb, ltb-false, eq-eqb, ne-eqb}
+use borrow.Author.Tests.{le-leb, lt-leb, le-ltb, lt-ltb, ltb-false, ne-eqb}
 use borrow.Rule.Slice.PartMut.{putMid, midOf, put-same}
-use Rattle.codec.specs.Plain.{if_then_else_, within, allZero}
+use Rattle.codec.specs.Plain.{within, allZero}
 use Rattle.codec.specs.Word.{wordAt}
-use Rattle.codec.specs.Code.{Code, via, slot, getSlot, validSlot}
-use Rattle.codec.proofs.Tests.{T-true, true-T}
+use Rattle.codec.specs.Code.{via, slot, getSlot, validSlot}
+use Rattle.codec.proofs.Tests.{true-T}
 use Rattle.codec.proofs.Lists.{all-take, all-drop}
 use Rattle.machine.specs.Codes.{codeOf, threeRates}
 use Rattle.machine.specs.Message.{protocolOf, sizeOf, messageCode}
 use Rattle.machine.specs.Filter.{Slots, free, taken, has}
-use Rattle.machine.specs.Channel.{Periodic, Chan, closed, opened, withSending, startPeriodic, stopPeriodic, unless, doneWith, shorter, periodicCode, periodicOf, onStartPeriodic, onStopPeriodic, laterSlot, onAdvance, onOpen}
+use Rattle.machine.specs.Channel.{Periodic, Chan, closed, withSending, startPeriodic, stopPeriodic, unless, doneWith, shorter, periodicCode, periodicOf, onStartPeriodic, onStopPeriodic, laterSlot, onAdvance, onOpen}
 use Rattle.layout.specs.Memory.{periodics, openPart, chanBack, region}
 use Rattle.layout.specs.Promise.{Opened, gives, callOutcome}
 use Rattle.layout.proofs.Memory.{region-lawful}
@@ -31,16 +31,27 @@ use Rattle.periodics.specs.Part.{PeriodicPart, startCode}
 use Rattle.periodics.proofs.Held.{ten-held, heldAt, empty-at, taken-at}
 use Rattle.periodics.proofs.Moves.{nothing-moves}
 
+-- the periodics of an open channel, and the part of its region that holds them
+abbrev pub placesOf : List ℕ → Slots Periodic
+placesOf r = openOf r .sending .periodics
+
+abbrev pub partOf : List ℕ → List ℕ
+partOf r = take 450 (drop 280 r)
+
+-- the region with other periodics
+abbrev pub withPlaces : List ℕ → Slots Periodic → Chan
+withPlaces r ps = withSending (openOf r) ps (openOf r .sending .written) (openOf r .sending .flight)
+
 module _ (r : List ℕ) (o : Opened r) where
   -- the part can be lent, and what it holds is the channel's periodics
-  abbrev pub lent : PeriodicPart (take 450 (drop 280 r))
+  abbrev pub lent : PeriodicPart (partOf r)
   lent = record { flags = fl (openOf r); long = periodics-part r o .long; valid = periodics-part r o .valid }
 
-  pub lent-held : periodics (fl (openOf r)) .get (take 450 (drop 280 r)) ≡ openOf r .sending .periodics
+  pub lent-held : periodics (fl (openOf r)) .get (partOf r) ≡ placesOf r
   lent-held = periodics-part r o .got
 
   -- a number that code found of them
-  pub number-is : (i : ℕ) → ((flags : ℕ) → i ≡ free (periodics flags .get (take 450 (drop 280 r)))) → i ≡ free (openOf r .sending .periodics)
+  pub number-is : (i : ℕ) → ((flags : ℕ) → i ≡ free (periodics flags .get (partOf r))) → i ≡ free (placesOf r)
   number-is i e = e (fl (openOf r)) ∙ ap free lent-held
 
   -- a code that code found by the flags
@@ -48,8 +59,8 @@ module _ (r : List ℕ) (o : Opened r) where
   code-is message interval code n e k = k ∙ ap (λ (f : ℕ). startCode f message interval) (e ∙ word-of (flags-part r o))
 
   -- and the region with other periodics in it
-  lent-back : (f : Slots Periodic → Slots Periodic) (ys : List ℕ) → ((flags : ℕ) → ys ≡ periodics flags .put (f (periodics flags .get (take 450 (drop 280 r)))))
-      → putMid 280 450 r ys ≡ region .put (withSending (openOf r) (f (openOf r .sending .periodics)) (openOf r .sending .written) (openOf r .sending .flight))
+  pub lent-back : (f : Slots Periodic → Slots Periodic) (ys : List ℕ) → ((flags : ℕ) → ys ≡ periodics flags .put (f (periodics flags .get (partOf r))))
+      → putMid 280 450 r ys ≡ region .put (withPlaces r (f (placesOf r)))
   lent-back f ys e = periodics-part r o .becomes ys _ (e (fl (openOf r)) ∙ ap (λ (ps : Slots Periodic). periodics (fl (openOf r)) .put (f ps)) lent-held)
 
 -- ---- advance
@@ -68,7 +79,7 @@ module _ (r : List ℕ) (long : length r ≡ 2498) (v : T (region .valid r)) (us
   pub not-closed : allZero (take 40 (drop 280 r)) ≡ false → Opened r
   not-closed e = record { long = long; valid = v; mark = marked (λ t. subst T e t) }
 
-  pub moved-on : (o : Opened r) (ys : List ℕ) → ((flags : ℕ) → ys ≡ periodics flags .put (map (laterSlot us) (periodics flags .get (take 450 (drop 280 r)))))
+  pub moved-on : (o : Opened r) (ys : List ℕ) → ((flags : ℕ) → ys ≡ periodics flags .put (map (laterSlot us) (periodics flags .get (partOf r))))
       → putMid 280 450 r ys ≡ region .put (onAdvance us (region .get r))
   unfolding onAdvance
   moved-on o ys e = lent-back r o (map (laterSlot us)) ys e ∙ sym (ap (λ (c : Chan). region .put (onAdvance us c)) (is-open r o) ∙ rw (le-leb us 1000000 u))
@@ -77,7 +88,7 @@ module _ (r : List ℕ) (long : length r ≡ 2498) (v : T (region .valid r)) (us
   still-open t e =
       let o : Opened r = record { long = long; valid = v; mark = e } in
       sym (put-same 280 450 r)
-      ∙ moved-on o (midOf 280 450 r) (nothing-moves (take 450 (drop 280 r)) (lent r o) us (subst (λ (x : List ℕ). T (allZero x)) (sym (take-take 40 450 (drop 280 r) (omega arith))) t))
+      ∙ moved-on o (midOf 280 450 r) (nothing-moves (partOf r) (lent r o) us (subst (λ (x : List ℕ). T (allZero x)) (sym (take-take 40 450 (drop 280 r) (omega arith))) t))
 
   still-closed : getD r 0 0 ≡ 0 → r ≡ region .put (onAdvance us (region .get r))
   unfolding region via slot onAdvance
@@ -181,9 +192,6 @@ good-size flags m e = let t = size-tested (eqb (protocolOf m) 5) (within 4 12 (s
 -- ---- start, with the places
 
 module _ (r : List ℕ) (o : Opened r) (message : List ℕ) (interval t : ℕ) where
-  abbrev places : Slots Periodic
-  places = openOf r .sending .periodics
-
   refusal : (code : ℕ) → (code ≡ 0 → ⊥) → periodicCode (openOf r) message interval ≡ code → gives code 0 [] r ≡ callOutcome threeRates t r (startPeriodic message interval)
   unfolding onOpen onStartPeriodic unless
   refusal zero n e = absurd (n refl)
@@ -191,70 +199,67 @@ module _ (r : List ℕ) (o : Opened r) (message : List ℕ) (interval t : ℕ) w
 
   pub start-refused : (code : ℕ) → code ≡ startCode (fl (openOf r)) message interval → (code ≡ 0 → ⊥) → gives code 0 [] r ≡ callOutcome threeRates t r (startPeriodic message interval)
   unfolding periodicCode startCode
-  start-refused code e n = refusal code n (no-more-tests _ _ (messageCode (fl (openOf r)) message) ((leb 10 (free places), 0x0C) ∷ []) (λ z. n (e ∙ z)) ∙ sym e)
+  start-refused code e n = refusal code n (no-more-tests _ _ (messageCode (fl (openOf r)) message) ((leb 10 (free (placesOf r)), 0x0C) ∷ []) (λ z. n (e ∙ z)) ∙ sym e)
 
   module _ (e : 0 ≡ startCode (fl (openOf r)) message interval) where
-    room-test : periodicCode (openOf r) message interval ≡ codeOf ((leb 10 (free places), 0x0C) ∷ [])
+    room-test : periodicCode (openOf r) message interval ≡ codeOf ((leb 10 (free (placesOf r)), 0x0C) ∷ [])
     unfolding periodicCode startCode
-    room-test = more-tests _ _ (messageCode (fl (openOf r)) message) ((leb 10 (free places), 0x0C) ∷ []) (sym e)
+    room-test = more-tests _ _ (messageCode (fl (openOf r)) message) ((leb 10 (free (placesOf r)), 0x0C) ∷ []) (sym e)
 
-    pub start-full : (i : ℕ) → i ≡ free places → 10 ≤ i → gives 0x0C 0 [] r ≡ callOutcome threeRates t r (startPeriodic message interval)
+    pub start-full : (i : ℕ) → i ≡ free (placesOf r) → 10 ≤ i → gives 0x0C 0 [] r ≡ callOutcome threeRates t r (startPeriodic message interval)
     unfolding codeOf
-    start-full i ei h = refusal 0x0C (λ z. omega arith) (room-test ∙ rw (le-leb 10 (free places) (omega arith)))
+    start-full i ei h = refusal 0x0C (λ z. omega arith) (room-test ∙ rw (le-leb 10 (free (placesOf r)) (omega arith)))
 
-    pub start-done : (i : ℕ) → i ≡ free places → i < 10 → (ys : List ℕ)
-        → ((flags : ℕ) → ys ≡ periodics flags .put (set (periodics flags .get (take 450 (drop 280 r))) i (some (periodicOf message interval))))
+    pub start-done : (i : ℕ) → i ≡ free (placesOf r) → i < 10 → (ys : List ℕ)
+        → ((flags : ℕ) → ys ≡ periodics flags .put (set (periodics flags .get (partOf r)) i (some (periodicOf message interval))))
         → gives 0 (i + 1) [] (putMid 280 450 r ys) ≡ callOutcome threeRates t r (startPeriodic message interval)
     unfolding onOpen onStartPeriodic unless doneWith codeOf
     start-done i ei h ys ey =
-        let k : periodicCode (openOf r) message interval ≡ 0 = room-test ∙ rw (lt-leb 10 (free places) (omega arith)) in
-        moves r o threeRates t (startPeriodic message interval) (withSending (openOf r) (set places i (some (periodicOf message interval))) (openOf r .sending .written) (openOf r .sending .flight)) 0 (i + 1) [] _
+        let k : periodicCode (openOf r) message interval ≡ 0 = room-test ∙ rw (lt-leb 10 (free (placesOf r)) (omega arith)) in
+        moves r o threeRates t (startPeriodic message interval) (withPlaces r (set (placesOf r) i (some (periodicOf message interval)))) 0 (i + 1) [] _
         (rw k (rw ei refl)) (lent-back r o (λ ps. set ps i (some (periodicOf message interval))) ys ey)
 
 -- ---- stop
 
 module _ (r : List ℕ) (o : Opened r) (number t : ℕ) where
-  abbrev held-places : Slots Periodic
-  held-places = openOf r .sending .periodics
-
-  stop-none : has held-places number ≡ false → gives 0x0D 0 [] r ≡ callOutcome threeRates t r (stopPeriodic number)
+  stop-none : has (placesOf r) number ≡ false → gives 0x0D 0 [] r ≡ callOutcome threeRates t r (stopPeriodic number)
   unfolding onOpen onStopPeriodic unless codeOf
   stop-none e = stays r o threeRates t (stopPeriodic number) 0x0D 0 [] (rw e)
 
-  stop-done : has held-places number ≡ true → (i : ℕ) → i ≡ number - 1 → (ys : List ℕ) → ((flags : ℕ) → ys ≡ periodics flags .put (set (periodics flags .get (take 450 (drop 280 r))) i none))
+  stop-done : has (placesOf r) number ≡ true → (i : ℕ) → i ≡ number - 1 → (ys : List ℕ) → ((flags : ℕ) → ys ≡ periodics flags .put (set (periodics flags .get (partOf r)) i none))
       → gives 0 0 [] (putMid 280 450 r ys) ≡ callOutcome threeRates t r (stopPeriodic number)
   unfolding onOpen onStopPeriodic unless codeOf doneWith
   stop-done e i ei ys ey =
-      moves r o threeRates t (stopPeriodic number) (withSending (openOf r) (set held-places i none) (openOf r .sending .written) (openOf r .sending .flight)) 0 0 [] _
+      moves r o threeRates t (stopPeriodic number) (withPlaces r (set (placesOf r) i none)) 0 0 [] _
       (rw e (rw ei refl)) (lent-back r o (λ ps. set ps i none) ys ey)
 
   -- the place of the number
-  has-at : (i : ℕ) → number ≡ i + 1 → has held-places number ≡ taken (getD held-places i none)
+  has-at : (i : ℕ) → number ≡ i + 1 → has (placesOf r) number ≡ taken (getD (placesOf r) i none)
   unfolding has
-  has-at i e = ap (has held-places) (e ∙ add-one i)
+  has-at i e = ap (has (placesOf r)) (e ∙ add-one i)
 
   pub stop-zero : number < 1 → gives 0x0D 0 [] r ≡ callOutcome threeRates t r (stopPeriodic number)
   unfolding has
-  stop-zero h = let z : number ≡ 0 = omega arith in stop-none (ap (has held-places) z)
+  stop-zero h = let z : number ≡ 0 = omega arith in stop-none (ap (has (placesOf r)) z)
 
-  ten-places : length held-places ≡ 10
-  ten-places = ap length (sym (lent-held r o)) ∙ ten-held (take 450 (drop 280 r)) (lent r o)
+  ten-places : length (placesOf r) ≡ 10
+  ten-places = ap length (sym (lent-held r o)) ∙ ten-held (partOf r) (lent r o)
 
   pub stop-high : 10 < number → gives 0x0D 0 [] r ≡ callOutcome threeRates t r (stopPeriodic number)
   unfolding taken
   stop-high h =
-      let past : length held-places ≤ number - 1 = omega (arith, ten-places) in
-      stop-none (has-at (number - 1) (omega arith) ∙ ap taken (List·getD-eq-default held-places none past))
+      let past : length (placesOf r) ≤ number - 1 = omega (arith, ten-places) in
+      stop-none (has-at (number - 1) (omega arith) ∙ ap taken (List·getD-eq-default (placesOf r) none past))
 
   module _ (i : ℕ) (ei : number ≡ i + 1) (h : i < 10) where
-    place-is : getD held-places i none ≡ heldAt (take 450 (drop 280 r)) (lent r o) i h
+    place-is : getD (placesOf r) i none ≡ heldAt (partOf r) (lent r o) i h
     place-is = ap (λ (ps : Slots Periodic). getD ps i none) (sym (lent-held r o))
 
-    pub stop-empty : wordAt (i * 4) (take 450 (drop 280 r)) ≡ 0 → gives 0x0D 0 [] r ≡ callOutcome threeRates t r (stopPeriodic number)
+    pub stop-empty : wordAt (i * 4) (partOf r) ≡ 0 → gives 0x0D 0 [] r ≡ callOutcome threeRates t r (stopPeriodic number)
     unfolding taken
-    stop-empty z = stop-none (has-at i ei ∙ ap taken (place-is ∙ empty-at (take 450 (drop 280 r)) (lent r o) i h z))
+    stop-empty z = stop-none (has-at i ei ∙ ap taken (place-is ∙ empty-at (partOf r) (lent r o) i h z))
 
-    pub stop-taken : (wordAt (i * 4) (take 450 (drop 280 r)) ≡ 0 → ⊥) → (ys : List ℕ) → ((flags : ℕ) → ys ≡ periodics flags .put (set (periodics flags .get (take 450 (drop 280 r))) i none))
+    pub stop-taken : (wordAt (i * 4) (partOf r) ≡ 0 → ⊥) → (ys : List ℕ) → ((flags : ℕ) → ys ≡ periodics flags .put (set (periodics flags .get (partOf r)) i none))
         → gives 0 0 [] (putMid 280 450 r ys) ≡ callOutcome threeRates t r (stopPeriodic number)
     unfolding taken
-    stop-taken n ys ey = stop-done (has-at i ei ∙ ap taken (place-is ∙ taken-at (take 450 (drop 280 r)) (lent r o) i h n .is)) i (omega arith) ys ey
+    stop-taken n ys ey = stop-done (has-at i ei ∙ ap taken (place-is ∙ taken-at (partOf r) (lent r o) i h n .is)) i (omega arith) ys ey

@@ -1,7 +1,6 @@
 -- `periodics::start_code` meets its contract. Assumes nothing.
 use mathlib.Core.Path.{_∙_}
 use Rattle.periodics.proofs.Region.{start-short, start-early, start-late, start-message}
-use borrow.Author.Needs.{needs}
 use Rattle.periodics.proofs.start_code.Statement.{statement}
 use Rattle.periodics.proofs.start_code.Tie as tie
 

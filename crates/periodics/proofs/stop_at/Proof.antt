@@ -1,6 +1,6 @@
 -- `periodics::stop_at` meets its contract. Assumes nothing.
 use mathlib.Core.Path.{_≡_, refl}
-use Prim.Native.Nat.{ℕ, _+_, _*_, _-_}
+use Prim.Native.Nat.{_+_, _*_, _-_}
 use native.Mathlib.Omega.{arith}
 use Rattle.periodics.proofs.Held.{stop-stored}
 use borrow.Author.Needs.{needs}
