@@ -1,0 +1,31 @@
+-- `sending::write` meets its contract. Assumes nothing.
+use Rattle.sending.proofs.Writing.{write-short, written-lent, write-done}
+use borrow.Author.Needs.{needs}
+use Rattle.sending.proofs.write.Statement.{statement}
+use Rattle.sending.proofs.write.Tie as tie
+
+returns : tie.Need-returns
+returns c = λ t. let start = c .before .before .before in write-short (start .args .r .now) (start .pre) t _ _ (c .if1 .taken)
+
+queue-all-requires : tie.Need-queue-all-requires
+queue-all-requires c κs = let start = c .before .before .before .before .before .before in (written-lent (start .args .r .now) (start .pre) _ (c .before .word-at .ensures .0), c .before .before .before .if1 .left)
+
+returns-2 : tie.Need-returns-2
+returns-2 c =
+    λ t.
+    let start = c .before .before .before .before .before .before .before .before .before in
+    write-done (start .args .r .now) (start .pre) _ (c .before .before .before .before .word-at .ensures .0) t _ _ _ _ _ (c .before .before .before .before .before .before .if1 .left) (c .before .before .queue-all .ensures)
+
+pub write-spec : {M : Type 1} → statement M
+write-spec =
+    tie.close
+    (tie.spec
+    (λ c. search needs)
+    returns
+    (λ c κs. search needs)
+    (λ c. search needs)
+    (λ c. search needs)
+    (λ c. search needs)
+    queue-all-requires
+    (λ c. search needs)
+    returns-2)
