@@ -1,11 +1,68 @@
 // Runs the reader and the writer on worked telegrams, and prints a line for each. What the file `stdout` holds was worked out by hand
 // from documents 001 (tables 3 to 5, sections 5.1.3 and 5.2.2) and 01, before the program was first run.
-ghost use Prim.Native.Nat.{_≤_};
 use tp20::OnChannel;
 use tp20::Opening;
 use tp20::Taken;
 use tp20::Telegram;
 use tp20::Written;
+
+// Telegrams on a channel: how many bytes, and the bytes.
+const ON_CHANNEL: [[u8; 10]; 26] = [
+    [1, 0x10, 0, 0, 0, 0, 0, 0, 0, 0],
+    [8, 0x00, 0x01, 0x02, 0x03, 0x04, 0x05, 0x06, 0x07, 0],
+    [2, 0x2F, 0xFF, 0, 0, 0, 0, 0, 0, 0],
+    [1, 0x3A, 0, 0, 0, 0, 0, 0, 0, 0],
+    [1, 0x40, 0, 0, 0, 0, 0, 0, 0, 0],
+    [1, 0x80, 0, 0, 0, 0, 0, 0, 0, 0],
+    [1, 0xB1, 0, 0, 0, 0, 0, 0, 0, 0],
+    [1, 0x91, 0, 0, 0, 0, 0, 0, 0, 0],
+    [1, 0x9F, 0, 0, 0, 0, 0, 0, 0, 0],
+    [1, 0xF1, 0, 0, 0, 0, 0, 0, 0, 0],
+    [2, 0xB1, 0x00, 0, 0, 0, 0, 0, 0, 0],
+    [1, 0xA3, 0, 0, 0, 0, 0, 0, 0, 0],
+    [1, 0xA4, 0, 0, 0, 0, 0, 0, 0, 0],
+    [1, 0xA8, 0, 0, 0, 0, 0, 0, 0, 0],
+    [1, 0xA2, 0, 0, 0, 0, 0, 0, 0, 0],
+    [2, 0xA3, 0x00, 0, 0, 0, 0, 0, 0, 0],
+    [0, 0, 0, 0, 0, 0, 0, 0, 0, 0],
+    [9, 0x00, 0x00, 0x00, 0x00, 0x00, 0x00, 0x00, 0x00, 0x00],
+    [6, 0xA0, 0x0F, 0x8A, 0xFF, 0x32, 0xFF, 0, 0, 0],
+    [6, 0xA1, 0x01, 0x00, 0xFF, 0xFF, 0xFF, 0, 0, 0],
+    [6, 0xA0, 0x00, 0x8A, 0xFF, 0x32, 0xFF, 0, 0, 0],
+    [6, 0xA0, 0x10, 0x8A, 0xFF, 0x32, 0xFF, 0, 0, 0],
+    [6, 0xA0, 0x0F, 0x8A, 0xFE, 0x32, 0xFF, 0, 0, 0],
+    [6, 0xA0, 0x0F, 0x8A, 0xFF, 0x32, 0xFE, 0, 0, 0],
+    [5, 0xA0, 0x0F, 0x8A, 0xFF, 0x32, 0, 0, 0, 0],
+    [7, 0xA0, 0x0F, 0x8A, 0xFF, 0x32, 0xFF, 0x00, 0, 0],
+];
+
+// Opening telegrams: the identifier's two bytes, how many bytes, and the bytes.
+const OPENINGS: [[u8; 11]; 24] = [
+    [0x2, 0x00, 7, 0x01, 0xC0, 0x00, 0x10, 0x00, 0x03, 0x01, 0],
+    [0x1, 0xFF, 7, 0x01, 0xC0, 0x00, 0x10, 0x00, 0x03, 0x01, 0],
+    [0x2, 0xEF, 7, 0xEF, 0xC0, 0x00, 0x10, 0xFF, 0x07, 0x21, 0],
+    [0x2, 0xF0, 7, 0x01, 0xC0, 0x00, 0x10, 0x00, 0x03, 0x01, 0],
+    [0x2, 0x00, 7, 0xF0, 0xC0, 0x00, 0x10, 0x00, 0x03, 0x01, 0],
+    [0x2, 0x00, 7, 0x01, 0xC0, 0x01, 0x10, 0x00, 0x03, 0x01, 0],
+    [0x2, 0x00, 7, 0x01, 0xC0, 0x00, 0x00, 0x00, 0x03, 0x01, 0],
+    [0x2, 0x00, 7, 0x01, 0xC0, 0x00, 0x10, 0x00, 0x0B, 0x01, 0],
+    [0x2, 0x00, 7, 0x01, 0xC0, 0x00, 0x10, 0x00, 0x13, 0x01, 0],
+    [0x2, 0x00, 7, 0x01, 0xC0, 0x00, 0x10, 0x00, 0x03, 0x02, 0],
+    [0x2, 0x00, 6, 0x01, 0xC0, 0x00, 0x10, 0x00, 0x03, 0, 0],
+    [0x2, 0x00, 8, 0x01, 0xC0, 0x00, 0x10, 0x00, 0x03, 0x01, 0x00],
+    [0x2, 0x00, 0, 0, 0, 0, 0, 0, 0, 0, 0],
+    [0x2, 0x01, 7, 0x00, 0xD0, 0x00, 0x03, 0x40, 0x07, 0x10, 0],
+    [0x2, 0x01, 7, 0x00, 0xD0, 0x00, 0x0B, 0x40, 0x07, 0x10, 0],
+    [0x2, 0x01, 7, 0x00, 0xD0, 0x00, 0x03, 0x40, 0x17, 0x10, 0],
+    [0x2, 0x01, 7, 0x00, 0xD0, 0x00, 0x03, 0x40, 0x07, 0x11, 0],
+    [0x2, 0x01, 7, 0x00, 0xD6, 0x01, 0x02, 0x03, 0x04, 0x05, 0],
+    [0x2, 0x01, 7, 0x00, 0xD7, 0xFF, 0xFF, 0xFF, 0xFF, 0xFF, 0],
+    [0x2, 0x01, 7, 0x00, 0xD8, 0x00, 0x00, 0x00, 0x00, 0x00, 0],
+    [0x2, 0x01, 7, 0x00, 0xD5, 0x01, 0x02, 0x03, 0x04, 0x05, 0],
+    [0x2, 0x01, 7, 0x00, 0xD9, 0x01, 0x02, 0x03, 0x04, 0x05, 0],
+    [0x2, 0x00, 7, 0x01, 0x23, 0x01, 0x02, 0x03, 0x00, 0x00, 0],
+    [0x2, 0x00, 7, 0x01, 0x24, 0x01, 0x02, 0x03, 0x04, 0x05, 0],
+];
 
 // A byte, a space before it.
 fn byte(b: u8) {
@@ -108,20 +165,48 @@ fn read(opening: bool, identifier: u32, bytes: &[u8]) {
     io::write_all(1, b"\n");
 }
 
-// A telegram on a channel.
-fn channel(bytes: &[u8]) {
+// Runs a row of the telegrams on a channel.
+fn on_channel(row: [u8; 10]) {
+    let n = row[0] as usize;
+    let bytes = first(&row[1..10], n);
     io::write_all(1, b"channel");
     show(bytes);
     read(false, 0, bytes);
 }
 
-// An opening telegram under an identifier.
-fn opening(identifier: u32, bytes: &[u8]) {
+// The number of two bytes, the higher one first.
+fn pair(high: u8, low: u8) -> u32 {
+    high as u32 * 256 + low as u32
+}
+
+// Runs a row of the opening telegrams.
+fn opening(row: [u8; 11]) {
+    let identifier = pair(row[0], row[1]);
+    let n = row[2] as usize;
+    let bytes = first(&row[3..11], n);
     io::write_all(1, b"opening ");
     io::print_hex(1, identifier as u64, 3);
     io::write_all(1, b":");
     show(bytes);
     read(true, identifier, bytes);
+}
+
+// Runs the i-th case of both tables.
+fn case(i: usize) {
+    if i < 26 {
+        on_channel(ON_CHANNEL[i]);
+    } else if i < 50 {
+        opening(OPENINGS[i - 26]);
+    }
+}
+
+// Runs both tables.
+fn reads() {
+    let mut i = 0;
+    while i < 50 {
+        case(i);
+        i += 1;
+    }
 }
 
 // Writes a telegram into the first n bytes of the buffer, or into all where there are fewer.
@@ -160,72 +245,6 @@ fn time(b: u8) {
     io::write_all(1, b" ->");
     number(tp20::time(b));
     io::write_all(1, b"\n");
-}
-
-// Telegrams on a channel: every kind but connections, wrong bits, wrong lengths.
-fn on_channel() {
-    channel(b"\x10");
-    channel(b"\x00\x01\x02\x03\x04\x05\x06\x07");
-    channel(b"\x2F\xFF");
-    channel(b"\x3A");
-    channel(b"\x40");
-    channel(b"\x80");
-    channel(b"\xB1");
-    channel(b"\x91");
-    channel(b"\x9F");
-    channel(b"\xF1");
-    channel(b"\xB1\x00");
-    channel(b"\xA3");
-    channel(b"\xA4");
-    channel(b"\xA8");
-    channel(b"\xA2");
-    channel(b"\xA3\x00");
-    channel(b"");
-    channel(b"\x00\x00\x00\x00\x00\x00\x00\x00\x00");
-}
-
-// Connection telegrams: block sizes 0 and 16, T2 and T4 not 0xFF, wrong lengths.
-fn connections() {
-    channel(b"\xA0\x0F\x8A\xFF\x32\xFF");
-    channel(b"\xA1\x01\x00\xFF\xFF\xFF");
-    channel(b"\xA0\x00\x8A\xFF\x32\xFF");
-    channel(b"\xA0\x10\x8A\xFF\x32\xFF");
-    channel(b"\xA0\x0F\x8A\xFE\x32\xFF");
-    channel(b"\xA0\x0F\x8A\xFF\x32\xFE");
-    channel(b"\xA0\x0F\x8A\xFF\x32");
-    channel(b"\xA0\x0F\x8A\xFF\x32\xFF\x00");
-}
-
-// Set-ups: identifiers and destinations at their limits and past them, wrong fixed bytes, information bits, application and lengths.
-fn set_ups() {
-    opening(0x200, b"\x01\xC0\x00\x10\x00\x03\x01");
-    opening(0x1FF, b"\x01\xC0\x00\x10\x00\x03\x01");
-    opening(0x2EF, b"\xEF\xC0\x00\x10\xFF\x07\x21");
-    opening(0x2F0, b"\x01\xC0\x00\x10\x00\x03\x01");
-    opening(0x200, b"\xF0\xC0\x00\x10\x00\x03\x01");
-    opening(0x200, b"\x01\xC0\x01\x10\x00\x03\x01");
-    opening(0x200, b"\x01\xC0\x00\x00\x00\x03\x01");
-    opening(0x200, b"\x01\xC0\x00\x10\x00\x0B\x01");
-    opening(0x200, b"\x01\xC0\x00\x10\x00\x13\x01");
-    opening(0x200, b"\x01\xC0\x00\x10\x00\x03\x02");
-    opening(0x200, b"\x01\xC0\x00\x10\x00\x03");
-    opening(0x200, b"\x01\xC0\x00\x10\x00\x03\x01\x00");
-    opening(0x200, b"");
-}
-
-// Replies: information bits, application, kinds past the three, and the opcodes of requests.
-fn replies() {
-    opening(0x201, b"\x00\xD0\x00\x03\x40\x07\x10");
-    opening(0x201, b"\x00\xD0\x00\x0B\x40\x07\x10");
-    opening(0x201, b"\x00\xD0\x00\x03\x40\x17\x10");
-    opening(0x201, b"\x00\xD0\x00\x03\x40\x07\x11");
-    opening(0x201, b"\x00\xD6\x01\x02\x03\x04\x05");
-    opening(0x201, b"\x00\xD7\xFF\xFF\xFF\xFF\xFF");
-    opening(0x201, b"\x00\xD8\x00\x00\x00\x00\x00");
-    opening(0x201, b"\x00\xD5\x01\x02\x03\x04\x05");
-    opening(0x201, b"\x00\xD9\x01\x02\x03\x04\x05");
-    opening(0x200, b"\x01\x23\x01\x02\x03\x00\x00");
-    opening(0x200, b"\x01\x24\x01\x02\x03\x04\x05");
 }
 
 // Data with the bytes that they carry.
@@ -366,10 +385,7 @@ fn writes_of_openings() {
 
 // Runs every case.
 fn main() {
-    on_channel();
-    connections();
-    set_ups();
-    replies();
+    reads();
     writes_on_channel();
     writes_of_openings();
     time(0x00);
