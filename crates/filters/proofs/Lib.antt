@@ -3,3 +3,4 @@ pub mod Looks
 pub mod Held
 pub mod Steps
 pub mod OnRegion
+pub mod Frame

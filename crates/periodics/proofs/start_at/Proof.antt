@@ -13,7 +13,7 @@ put-clean-requires : tie.Need-put-clean-requires
 put-clean-requires c κs =
     let s = c .before .before .before .before .before .before .before .pre .0 in
     let size = good-size (s .part .flags) _ (s .good) in
-    (search needs, s .long, size .0, size .1)
+    (search needs, s .long, size .1)
 
 returns : tie.Need-returns
 returns c =

@@ -20,7 +20,7 @@ put-clean-requires : tie.Need-put-clean-requires
 put-clean-requires c κs =
     let start = c .before .before .before .before .before .before .before in
     let size = good-size _ (start .args .m .now) (sym (c .before .before .before .before .message-code .ensures) ∙ c .before .before .before .if1 .left) in
-    (room _ (start .args .store .now) (start .pre .0) (c .before .if2 .left), start .pre .1, size .0, size .1)
+    (room _ (start .args .store .now) (start .pre .0) (c .before .if2 .left), start .pre .1, size .1)
 
 returns-3 : tie.Need-returns-3
 returns-3 c =
