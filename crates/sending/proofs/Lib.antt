@@ -1,2 +1,6 @@
 pub mod Store
 pub mod Writing
+pub mod Next
+pub mod Flight
+pub mod Taking
+pub mod Landing

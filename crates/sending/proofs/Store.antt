@@ -1,19 +1,19 @@
 -- A store of at most n values, as code changes it: one more behind those held, and the oldest gone. Assumes nothing.
-use mathlib.Core.Path.{_≡_, refl, sym, ap, ap₂, _∙_}
+use mathlib.Core.Path.{_≡_, sym, ap, _∙_}
 use Prim.Native.Nat.{ℕ, suc, _+_, _*_, _-_, _≤_, _<_}
-use native.Mathlib.Nat.{suc-mul, add-comm, mul-comm, one-mul}
+use native.Mathlib.Nat.{suc-mul, suc-ne-zero, add-comm, mul-comm}
 use native.Mathlib.Numerals.{one-add}
 use native.Mathlib.Omega.{arith}
-use mathlib.Core.List.{List, [], _∷_, _++_, append-assoc}
-use lib.ListN.{length, getD, set, take, drop, length-drop, replicate-append-replicate}
+use mathlib.Core.List.{List, [], _∷_, _++_, append-assoc, append-nil}
+use lib.ListN.{length, getD, set, take, drop, length-drop, drop-of-length-le, replicate-append-replicate}
 use lib.Seq.{take-at, drop-at, drop-drop, length-take-le}
 use lib.Dec.{T}
 use borrow.Rule.Slice.PartMut.{putMid}
 use Rattle.codec.specs.Plain.{all, zeros}
 use Rattle.codec.specs.Code.{Code, upTo, putAll}
-use Rattle.codec.proofs.Tests.{left, right}
+use Rattle.codec.proofs.Tests.{left}
 use Rattle.codec.proofs.Lawful.{Lawful}
-use Rattle.codec.proofs.Many.{putAll-long, upTo-count, upTo-each, rest}
+use Rattle.codec.proofs.Many.{putAll-long, upTo-count, upTo-each, first, rest}
 use Rattle.codec.proofs.Store.{added}
 
 -- a part of k bytes from a on
@@ -23,6 +23,13 @@ part-long a k m h = length-take-le (a + k - a) (drop a m) (omega (arith, length-
 -- the count alone
 counted : (v k : ℕ) (s : List ℕ) {m body : List ℕ} → m ≡ k ∷ body → set (take 1 m ++ s) 0 v ≡ v ∷ s
 counted v k s e = ap (λ (x : List ℕ). set (take 1 x ++ s) 0 v) e
+
+-- one value alone: its mark, then its bytes
+pub marked : (n : ℕ) (m ys : List ℕ) → length m ≡ suc n → set (putMid 1 n m ys) 0 1 ≡ 1 ∷ ys
+marked n [] ys h = absurd (suc-ne-zero n (sym h))
+marked n (x ∷ m) ys h =
+    let none-left : drop n m ≡ [] = drop-of-length-le m {i = n} (omega arith) in
+    ap {B = List ℕ} (λ (s : List ℕ). 1 ∷ (ys ++ s)) none-left ∙ ap {B = List ℕ} (λ (s : List ℕ). 1 ∷ s) (append-nil ys)
 
 zeros-join : (a b k : ℕ) → a + b ≡ k → zeros a ++ zeros b ≡ zeros k
 zeros-join a b k e = replicate-append-replicate a b 0 ∙ ap (λ (i : ℕ). zeros i) e
@@ -65,3 +72,11 @@ module _ {A : Type 0} {c : Code A} (l : Lawful c) (n size : ℕ) (es : c .size �
       ∙ ap {B = List ℕ} (λ (s : List ℕ). length xs ∷ s)
       (append-assoc (putAll c xs) (zeros (c .size)) (zeros free)
       ∙ ap (λ (s : List ℕ). putAll c xs ++ s) (zeros-join (c .size) free _ z))
+
+  -- the oldest
+  pub oldest-at : (x : A) (xs : List A) {m : List ℕ} → m ≡ upTo n c .put (x ∷ xs) → T (upTo n c .ok (x ∷ xs)) → take size (drop 1 m) ≡ c .put x
+  unfolding upTo
+  oldest-at x xs is t =
+      let o = left (c .ok x) (all (c .ok) xs) (upTo-each n c (x ∷ xs) t) in
+      (λ i. take (sym es i) (drop 1 (is i)))
+      ∙ ap (λ (s : List ℕ). take (c .size) s) (append-assoc (c .put x) (putAll c xs) _) ∙ first l x _ o

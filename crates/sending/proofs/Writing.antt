@@ -2,21 +2,20 @@
 use mathlib.Core.Path.{_≡_, refl, sym, ap, ap₂, _∙_, subst}
 use Prim.Native.Nat.{ℕ, zero, suc, _+_, _*_, _-_, _≤_, _<_}
 use native.Mathlib.Omega.{arith}
-use mathlib.Core.Bool.{Bool, true, false, not}
 use mathlib.Core.List.{List, [], _∷_, _++_}
 use lib.ListN.{length, getD, set, take, drop, length-drop}
 use lib.Seq.{take-all, drop-drop}
-use lib.Dec.{T, eqb, leb}
-use borrow.Author.Tests.{eq-eqb, ne-eqb, le-leb, lt-leb, lt-ltb, le-ltb}
+use lib.Dec.{T}
+use borrow.Author.Tests.{ne-eqb, le-leb, lt-leb, lt-ltb, le-ltb}
 use borrow.Rule.Slice.PartMut.{putMid}
-use Rattle.codec.specs.Plain.{if_then_else_, within, all, isByte}
+use Rattle.codec.specs.Plain.{within, all, isByte}
 use Rattle.codec.specs.Word.{wordAt}
-use Rattle.codec.specs.Code.{such, upTo}
-use Rattle.codec.proofs.Lists.{all-drop, bytes-of}
-use Rattle.codec.proofs.Many.{upTo-lawful, upTo-more}
+use Rattle.codec.specs.Code.{such}
+use Rattle.codec.proofs.Lists.{all-drop}
+use Rattle.codec.proofs.Many.{upTo-lawful}
 use Rattle.machine.specs.Codes.{codeOf, threeRates}
 use Rattle.machine.specs.Message.{Rec, sizeOf, messageCode, clean}
-use Rattle.machine.specs.Channel.{Chan, opened, Open, write, says, unless, shorter, Wrote, writeCode, unlessStopped, writing, onWrite, withSending, onOpen}
+use Rattle.machine.specs.Channel.{write, unless, shorter, Wrote, writeCode, unlessStopped, writing, onWrite, onOpen}
 use Rattle.layout.specs.Record.{rec36, outCell}
 use Rattle.layout.specs.Promise.{Opened, gives, callOutcome}
 use Rattle.layout.proofs.Memory.{out-lawful}

@@ -1,14 +1,17 @@
 // What is sent: written records, the choice of the next one, the one in flight, and its end.
 use codes::Answer;
 ghost use mathlib.Core.Path.{_≡_};
-ghost use mathlib.Core.List.{[]};
-ghost use Prim.Native.Nat.{ℕ, _*_, _≤_};
-ghost use lib.ListN.{length};
+ghost use mathlib.Core.List.{[], _∷_};
+ghost use Prim.Native.Nat.{ℕ, _*_, _≤_, _<_};
+ghost use lib.Dec.{T};
+ghost use lib.ListN.{length, getD, drop};
 ghost use Rattle.machine.specs.Codes.{threeRates};
-ghost use Rattle.machine.specs.Channel.{writeCode, writing};
-ghost use Rattle.machine.specs.Channel.{write as writeOf};
+ghost use Rattle.machine.specs.Channel.{writeCode, writing, next, takeNext};
+ghost use Rattle.machine.specs.Channel.{write as writeOf, sent as sentOf};
+ghost use Rattle.layout.specs.Memory.{periodics, region};
 ghost use Rattle.layout.specs.Promise.{gives, Opened, callOutcome};
 ghost use Rattle.sending.specs.Store.{written, WrittenPart, queued, Stopped};
+ghost use Rattle.sending.specs.Flight.{nextShown, Choosing, freed};
 
 // One message behind those held, clean, where its checks find it good and fewer than 16 are held; its code.
 fn queue(store: &mut [u8], flags: u32, m: &[u8]) -> u32
@@ -63,4 +66,98 @@ pub fn write(r: &mut [u8], n: u32, buffer: &[u8]) -> Answer
     }
     let flags = octets::word_at(r, 1);
     queue_all(&mut r[730..1307], flags, n, buffer)
+}
+
+// THE CHOICE of what is sent next: the 36 bytes of the first pending periodic, of place i, else those of the oldest written record.
+fn choice<'a>(waiting: &'a [u8], store: &'a [u8], i: usize) -> &'a [u8]
+    requires { ⌜ Choosing (now waiting) (now store) i ⌝ }
+    ensures { λ b. ⌜ ((flags : ℕ) → now b ≡ nextShown (next (periodics flags .get (now (waiting .entry))) (written flags .get (now (store .entry))))) × (length (now b) ≡ 36) ⌝ }
+{
+    if i < 10 {
+        let at = 90 + i * 36;
+        let end = at + 36;
+        return &waiting[at..end];
+    }
+    &store[1..37]
+}
+
+// A record of 36 bytes is in flight.
+fn launch(flight: &mut [u8], m: &[u8])
+    requires { ⌜ (length (now flight) ≡ 37) × (length (now m) ≡ 36) ⌝ }
+    ensures { λ u. ⌜ now (flight .exit) ≡ 1 ∷ now (m .entry) ⌝ }
+{
+    octets::copy(&mut flight[1..37], m);
+    flight[0] = 1;
+}
+
+// The oldest record of a written store goes: the others move to the front, zeros behind them.
+fn drop_oldest(store: &mut [u8])
+    requires { ⌜ (length (now store) ≡ 577) × (0 < getD (now store) 0 0) × (getD (now store) 0 0 ≤ 16) ⌝ }
+    ensures { λ u. ⌜ ((flags : ℕ) → T (written flags .valid (now (store .entry))) → now (store .exit) ≡ written flags .put (drop 1 (written flags .get (now (store .entry))))) ⌝ }
+{
+    let held = store[0];
+    let end = 1 + 36 * held as usize;
+    octets::move_down(&mut store[1..end], 36);
+    store[0] = held - 1;
+}
+
+// What went in flight is no longer pending, where it was the periodic of place i, else no longer held.
+fn free(r: &mut [u8], i: usize)
+    requires { ⌜ Opened (now r) × (10 ≤ i → 0 < getD (now r) 730 0) ⌝ }
+    ensures { λ u. ⌜ now (r .exit) ≡ region .put (freed i (region .get (now (r .entry)))) ⌝ }
+{
+    if i < 10 {
+        periodics::calm(&mut r[280..730], i);
+        return;
+    }
+    drop_oldest(&mut r[730..1307]);
+}
+
+// Take, where nothing is in flight: the chosen record goes in flight and to the buffer.
+fn take_next(r: &mut [u8], buffer: &mut [u8]) -> u32
+    requires { ⌜ Opened (now r) × (getD (now r) 1307 0 ≡ 0) × (36 ≤ length (now buffer)) ⌝ }
+    ensures { λ c. ⌜ ((t : ℕ) → gives c 0 (now (buffer .exit)) (now (r .exit)) ≡ callOutcome threeRates t (now (r .entry)) (takeNext (now (buffer .entry)))) ⌝ }
+{
+    let i = periodics::first_pending(&r[280..730]);
+    if (i >= 10) & (r[730] == 0) {
+        return codes::ERR_BUFFER_EMPTY;
+    }
+    octets::copy(&mut buffer[0..36], choice(&r[280..730], &r[730..1307], i));
+    launch(&mut r[1307..1344], &buffer[0..36]);
+    free(r, i);
+    codes::STATUS_NOERROR
+}
+
+// Take: the record in flight, or the chosen one, which then is in flight.
+pub fn take(r: &mut [u8], buffer: &mut [u8]) -> u32
+    requires { ⌜ Opened (now r) ⌝ }
+    ensures { λ c. ⌜ ((t : ℕ) → gives c 0 (now (buffer .exit)) (now (r .exit)) ≡ callOutcome threeRates t (now (r .entry)) (takeNext (now (buffer .entry)))) ⌝ }
+{
+    if buffer.len() < 36 {
+        return codes::ERR_NULL_PARAMETER;
+    }
+    if r[1307] == 0 {
+        return take_next(r, buffer);
+    }
+    octets::copy(&mut buffer[0..36], &r[1308..1344]);
+    codes::STATUS_NOERROR
+}
+
+// Sent: nothing is in flight any more. With loopback on, what was in flight comes back as if received.
+pub fn sent(r: &mut [u8], clock: u32) -> u32
+    requires { ⌜ Opened (now r) ⌝ }
+    ensures { λ c. ⌜ gives c 0 [] (now (r .exit)) ≡ callOutcome threeRates clock (now (r .entry)) sentOf ⌝ }
+{
+    if r[1307] == 0 {
+        return codes::ERR_FAILED;
+    }
+    if r[9] == 0 {
+        octets::zero(&mut r[1307..1344]);
+        return codes::STATUS_NOERROR;
+    }
+    let mut landed = [0u8; 36];
+    octets::copy(&mut landed, &r[1308..1344]);
+    octets::zero(&mut r[1307..1344]);
+    receiving::echo(r, clock, &landed);
+    codes::STATUS_NOERROR
 }

@@ -1,0 +1,98 @@
+-- What goes in flight next: where its bytes lie, what the machine chooses, and the region of an open channel when it is gone. Assumes nothing.
+use mathlib.Core.Path.{_≡_, refl, sym, ap, _∙_, subst}
+use Prim.Native.Nat.{ℕ, zero, suc, _+_, _*_, _-_, _≤_, _<_}
+use native.Mathlib.Nat.{not-suc-le-zero}
+use native.Mathlib.Omega.{arith}
+use mathlib.Core.Option.{Option}
+use mathlib.Core.List.{List, [], _∷_, _++_}
+use lib.ListN.{length, getD, set, take, drop, length-drop}
+use lib.Seq.{length-take-le}
+use lib.Dec.{T}
+use borrow.Rule.Slice.PartMut.{putMid}
+use Rattle.codec.specs.Plain.{zeros}
+use Rattle.codec.specs.Code.{such, getAll, upTo}
+use Rattle.machine.specs.Message.{Rec}
+use Rattle.machine.specs.Filter.{Slots}
+use Rattle.machine.specs.Channel.{Periodic, Next, next}
+use Rattle.layout.specs.Record.{rec36, outCell}
+use Rattle.layout.specs.Memory.{periodics}
+use Rattle.layout.proofs.Memory.{out-lawful, shown-is}
+use Rattle.layout.proofs.Sizes.{out-size}
+use Rattle.periodics.proofs.Next.{waiting, next-pending, next-oldest}
+use Rattle.periodics.proofs.Held.{any-get, ten-held, message-at}
+use Rattle.sending.specs.Store.{written, WrittenPart}
+use Rattle.sending.specs.Flight.{nextShown, Choosing}
+use Rattle.sending.proofs.Store.{part-long, oldest-at, oldest-gone}
+use Rattle.sending.proofs.Writing.{holds-ok, holds-is, holds-count}
+
+-- some are written: the oldest and the others
+pub record Several (ws : List Rec) : Type 0 where
+  pub oldest : Rec
+  pub others : List Rec
+  pub are : ws ≡ oldest ∷ others
+
+pub several : (ws : List Rec) → 0 < length ws → Several ws
+several [] h = absurd (not-suc-le-zero h)
+several (x ∷ ws) h = record { oldest = x; others = ws; are = refl }
+
+-- what is read of a written store does not depend on the flags
+any-records : (j k n : ℕ) (m : List ℕ) → getAll (outCell j) n m ≡ getAll (outCell k) n m
+unfolding outCell such
+any-records j k zero m = refl
+any-records j k (suc n) m = ap (λ (r : List Rec). rec36 .get (take (rec36 .size) m) ∷ r) (any-records j k n (drop (rec36 .size) m))
+
+any-written : (j k : ℕ) (m : List ℕ) → written j .get m ≡ written k .get m
+unfolding upTo
+any-written j k m = any-records j k (getD m 0 0) (drop 1 m)
+
+-- ---- the bytes of the choice
+
+module _ (p w : List ℕ) (i : ℕ) (q : Choosing p w i) where
+  abbrev flags : ℕ
+  flags = q .part .flags
+
+  abbrev ps : Slots Periodic
+  ps = periodics flags .get p
+
+  abbrev ws : List Rec
+  ws = written flags .get w
+
+  shown-any : (x : Option Next) → next ps ws ≡ x → (k : ℕ) → nextShown x ≡ nextShown (next (periodics k .get p) (written k .get w))
+  shown-any x e k = ap nextShown (sym e) ∙ (λ j. nextShown (next (any-get flags k p j) (any-written flags k w j)))
+
+  pub pending-shown : i < 10 → (k : ℕ) → take (90 + i * 36 + 36 - (90 + i * 36)) (drop (90 + i * 36) p) ≡ nextShown (next (periodics k .get p) (written k .get w))
+  unfolding nextShown
+  pending-shown h k =
+      let x = waiting ps (ten-held p (q .part)) i (q .first) h in
+      let size : 90 + i * 36 + 36 - (90 + i * 36) ≡ 36 = omega arith in
+      ap (λ (n : ℕ). take n (drop (90 + i * 36) p)) size ∙ message-at p (q .part) i h (x .one) (x .there) ∙ sym (shown-is (x .one .message))
+      ∙ shown-any _ (next-pending ps (ten-held p (q .part)) i (q .first) ws (x .one) (x .there)) k
+
+  pub pending-long : i < 10 → length (take (90 + i * 36 + 36 - (90 + i * 36)) (drop (90 + i * 36) p)) ≡ 36
+  pending-long h = part-long (90 + i * 36) 36 p (omega (arith, q .part .long))
+
+  pub oldest-shown : 10 ≤ i → (k : ℕ) → take 36 (drop 1 w) ≡ nextShown (next (periodics k .get p) (written k .get w))
+  unfolding nextShown outCell such
+  oldest-shown h k =
+      let s = several ws (omega (arith, q .something h, holds-count flags w (q .store))) in
+      oldest-at (out-lawful flags) 16 36 (out-size flags) (s .oldest) (s .others) (holds-is flags w (q .store) ∙ ap (written flags .put) (s .are))
+      (subst (λ (x : List Rec). T (written flags .ok x)) (s .are) (holds-ok flags w (q .store)))
+      ∙ sym (shown-is (s .oldest))
+      ∙ shown-any _ (next-oldest ps (ten-held p (q .part)) i (q .first) ws h ∙ ap (λ (x : List Rec). Rattle.periodics.proofs.Next.oldest ps x) (s .are)) k
+
+  pub oldest-long : length (take 36 (drop 1 w)) ≡ 36
+  oldest-long = length-take-le 36 (drop 1 w) (omega (arith, length-drop 1 w, q .store .long))
+
+-- ---- the written store without its oldest record
+
+module _ (store : List ℕ) (long : length store ≡ 577) (some-held : 0 < getD store 0 0) (ys : List ℕ)
+    (moved : ys ≡ drop 36 (take (1 + 36 * getD store 0 0 - 1) (drop 1 store)) ++ zeros 36) where
+  pub without-oldest : (flags : ℕ) → T (written flags .valid store) → set (putMid 1 (1 + 36 * getD store 0 0 - 1) store ys) 0 (getD store 0 0 - 1) ≡ written flags .put (drop 1 (written flags .get store))
+  without-oldest flags v =
+      let w : WrittenPart flags store = record { long = long; valid = v } in
+      let n = holds-count flags store w in
+      let s = several (written flags .get store) (omega arith) in
+      let count : getD store 0 0 ≡ length (s .oldest ∷ s .others) = n ∙ ap length (s .are) in
+      oldest-gone (out-lawful flags) 16 36 (out-size flags) (s .oldest) (s .others) (1 + 36 * getD store 0 0 - 1) (getD store 0 0 - 1) (holds-is flags store w ∙ ap (written flags .put) (s .are))
+      (subst (λ (x : List Rec). T (written flags .ok x)) (s .are) (holds-ok flags store w)) (omega arith) moved (omega arith)
+      ∙ ap (λ (x : List Rec). written flags .put (drop 1 x)) (sym (s .are))

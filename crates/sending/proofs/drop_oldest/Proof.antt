@@ -1,0 +1,25 @@
+-- `sending::drop_oldest` meets its contract. Assumes nothing.
+use Rattle.sending.proofs.Next.{without-oldest}
+use borrow.Author.Needs.{needs}
+use Rattle.sending.proofs.drop_oldest.Statement.{statement}
+use Rattle.sending.proofs.drop_oldest.Tie as tie
+
+returns : tie.Need-returns
+returns c = without-oldest (c .before .before .before .before .before .before .args .store .now) (c .before .before .before .before .before .before .pre .0) (c .before .before .before .before .before .before .pre .1) _ (c .before .before .move-down .ensures)
+
+pub drop-oldest-spec : {M : Type 1} → statement M
+drop-oldest-spec =
+    tie.close
+    (tie.spec
+    (λ c. search needs)
+    (λ c. search needs)
+    (λ c. search needs)
+    (λ c. search needs)
+    (λ c. search needs)
+    (λ c. search needs)
+    (λ c. search needs)
+    (λ c κs. search needs)
+    (λ c. search needs)
+    (λ c. search needs)
+    (λ c. search needs)
+    returns)

@@ -1,0 +1,23 @@
+-- `sending::launch` meets its contract. Assumes nothing.
+use mathlib.Core.Path.{ap, _∙_}
+use mathlib.Core.List.{List, _∷_}
+use Prim.Native.Nat.{ℕ}
+use Rattle.sending.proofs.Store.{marked}
+use borrow.Author.Needs.{needs}
+use Rattle.sending.proofs.launch.Statement.{statement}
+use Rattle.sending.proofs.launch.Tie as tie
+
+returns : tie.Need-returns
+returns c = marked 36 (c .before .before .before .before .before .before .args .flight .now) _ (c .before .before .before .before .before .before .pre .0) ∙ ap {B = List ℕ} (λ (s : List ℕ). 1 ∷ s) (c .before .before .copy .ensures)
+
+pub launch-spec : {M : Type 1} → statement M
+launch-spec =
+    tie.close
+    (tie.spec
+    (λ c. search needs)
+    (λ c. search needs)
+    (λ c. search needs)
+    (λ c κs. search needs)
+    (λ c. search needs)
+    (λ c. search needs)
+    returns)
