@@ -6,6 +6,8 @@ ghost use Rattle.machine.specs.Channel.{disconnect as disconnects};
 ghost use Rattle.machine.specs.Channel.{clear as clears};
 ghost use Rattle.machine.specs.Channel.{write as writes};
 ghost use Rattle.machine.specs.Channel.{read as reads};
+ghost use Rattle.machine.specs.Channel.{takeNext};
+ghost use Rattle.machine.specs.Channel.{sent as sentOf};
 ghost use Rattle.machine.specs.Channel.{startFilter, stopFilter, startPeriodic, stopPeriodic, getParameter, setParameter};
 ghost use Rattle.machine.specs.Device.{call};
 ghost use Rattle.machine.specs.Device.{connect as connects};
@@ -185,4 +187,24 @@ pub fn clear(mem: &mut [u8], channel: u32, kind: u32) -> u32
         return codes::ERR_INVALID_DEVICE_ID;
     }
     owned::clear(mem, channel, kind)
+}
+
+// The frame to send next, to a buffer; it stays in flight.
+pub fn take(mem: &mut [u8], channel: u32, buffer: &mut [u8]) -> u32
+    ensures { λ c. ⌜ gives c 0 (now (buffer .exit)) (now (mem .exit)) ≡ outcome threeRates (now (mem .entry)) (call channel (takeNext (now (buffer .entry)))) ⌝ }
+{
+    if !validity::valid(mem) {
+        return codes::ERR_INVALID_DEVICE_ID;
+    }
+    owned::take(mem, channel, buffer)
+}
+
+// The frame in flight is on the line.
+pub fn sent(mem: &mut [u8], channel: u32) -> u32
+    ensures { λ c. ⌜ gives c 0 [] (now (mem .exit)) ≡ outcome threeRates (now (mem .entry)) (call channel sentOf) ⌝ }
+{
+    if !validity::valid(mem) {
+        return codes::ERR_INVALID_DEVICE_ID;
+    }
+    owned::sent(mem, channel)
 }

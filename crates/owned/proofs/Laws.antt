@@ -296,3 +296,10 @@ module _ (m : List ℕ) (v : T (valid m)) where
           (ap₂ (λ (x z : List ℕ). putMid 0 4 x z) (all-put cs ys y) (ew ∙ ap word k) ∙ clock-put (record { clock = load m .clock; chans = cs }) ((load m .clock + us) % 0x1_0000_0000))
           ∙ by-step m v threeRates (advance us) (record { clock = (load m .clock + us) % 0x1_0000_0000; chans = cs }) (says 0 0 [])
           (step-advance threeRates (load m) us ∙ ap₂ {C = Device × Answer} (λ d a. (d, a)) (same-device (rw (le-leb us 1000000 h) refl) refl) (rw (le-ltb 1000000 us h) refl))
+
+  -- ---- a call that reads the clock
+
+  pub called-at : (k base : ℕ) (f : Found m k base) (x : Call) (now c w : ℕ) (b ys : List ℕ) → now ≡ wordAt 0 m → gives c w b ys ≡ callOutcome threeRates now (midOf base (base + 2498 - base) m) x
+      → gives c w b (putMid base (base + 2498 - base) m ys) ≡ outcome threeRates m (call k x)
+  called-at k base f x now c w b ys t e =
+      called m v k base f threeRates x c w b ys (e ∙ ap (λ (n : ℕ). callOutcome threeRates n (midOf base (base + 2498 - base) m) x) (t ∙ clock-is m v))

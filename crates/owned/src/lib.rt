@@ -11,6 +11,8 @@ ghost use Rattle.machine.specs.Channel.{disconnect as disconnects};
 ghost use Rattle.machine.specs.Channel.{clear as clears};
 ghost use Rattle.machine.specs.Channel.{write as writes};
 ghost use Rattle.machine.specs.Channel.{read as reads};
+ghost use Rattle.machine.specs.Channel.{takeNext};
+ghost use Rattle.machine.specs.Channel.{sent as sentOf};
 ghost use Rattle.machine.specs.Channel.{startFilter, stopFilter, startPeriodic, stopPeriodic, getParameter, setParameter, onAdvance};
 ghost use Rattle.machine.specs.Device.{call};
 ghost use Rattle.machine.specs.Device.{connect as connects};
@@ -286,4 +288,35 @@ pub fn advance(mem: &mut [u8], us: u32) -> u32
     advance_all(&mut mem[4..9996], us);
     octets::put_word(&mut mem[0..4], clock.us);
     codes::STATUS_NOERROR
+}
+
+// The frame to send next, to a buffer; it stays in flight.
+pub fn take(mem: &mut [u8], channel: u32, buffer: &mut [u8]) -> u32
+    requires { ⌜ T (valid (now mem)) ⌝ }
+    ensures { λ c. ⌜ gives c 0 (now (buffer .exit)) (now (mem .exit)) ≡ outcome threeRates (now (mem .entry)) (call channel (takeNext (now (buffer .entry)))) ⌝ }
+{
+    let p = place_of(mem, channel);
+    let code = p.code;
+    if code != codes::STATUS_NOERROR {
+        return code;
+    }
+    let a = p.base;
+    let e = a + 2498;
+    sending::take(&mut mem[a..e], buffer)
+}
+
+// The frame in flight is on the line.
+pub fn sent(mem: &mut [u8], channel: u32) -> u32
+    requires { ⌜ T (valid (now mem)) ⌝ }
+    ensures { λ c. ⌜ gives c 0 [] (now (mem .exit)) ≡ outcome threeRates (now (mem .entry)) (call channel sentOf) ⌝ }
+{
+    let p = place_of(mem, channel);
+    let code = p.code;
+    if code != codes::STATUS_NOERROR {
+        return code;
+    }
+    let now = octets::word_at(mem, 0);
+    let a = p.base;
+    let e = a + 2498;
+    sending::sent(&mut mem[a..e], now)
 }

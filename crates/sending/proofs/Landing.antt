@@ -20,9 +20,8 @@ use Rattle.layout.specs.Promise.{Opened, gives, callOutcome}
 use Rattle.layout.proofs.Memory.{rec-lawful, region-lawful}
 use Rattle.layout.proofs.Good.{Fine, fl, put-sending}
 use Rattle.layout.proofs.Region.{openOf, moves, stays, mark-of, loopback-part, flight-part, opened-again}
-use Rattle.message.specs.Cell.{Outgoing}
-use Rattle.message.proofs.Laws.{outgoing-put}
-use Rattle.receiving.specs.Queue.{arrived}
+use Rattle.receiving.proofs.Sent.{outgoing-put}
+use Rattle.receiving.specs.Queue.{arrived, Outgoing}
 use Rattle.sending.specs.Store.{written}
 use Rattle.sending.proofs.Flight.{none-put, good, none-flies, flies}
 
