@@ -94,7 +94,7 @@ fn number(n: u32) {
 }
 
 // A code, an arrow before it.
-fn code(n: u8) {
+fn code(n: u32) {
     io::write_all(1, b" -> ");
     io::print_hex(1, n as u64, 2);
 }

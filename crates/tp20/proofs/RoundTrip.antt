@@ -1,19 +1,19 @@
 -- The round trips carried to the reader and the writer, over whatever meets their promises; and that the promises leave no choice.
 -- Assumes nothing.
 use Prim.Native.Nat.{ℕ, _≤_}
-use mathlib.Core.Path.{_≡_, refl, sym, ap, _∙_, subst}
-use mathlib.Core.Bool.{Bool, true, false, _&&_}
+use mathlib.Core.Path.{_≡_, refl, sym, ap, _∙_}
+use mathlib.Core.Bool.{Bool, true}
+use mathlib.Core.Logic.{_⊎_, inl, inr}
 use mathlib.Core.Option.{Option, none, some}
 use mathlib.Core.List.{List}
 use native.Mathlib.Omega.{arith}
 use lib.ListN.{length, take}
 use lib.Dec.{ltb}
 use lib.Seq.{take-append-seam}
-use borrow.Author.Tests.{le-ltb, lt-ltb}
+use borrow.Author.Tests.{le-ltb}
 use Rattle.telegram.specs.Bits.{areBytes}
 use Rattle.telegram.specs.Telegram.{AnyTelegram, anyFits, anyBytes, comes, readAny}
 use Rattle.telegram.specs.Telegram as T
-use Rattle.telegram.specs.Exact.{Exact}
 use Rattle.telegram.proofs.Tests.{both, together, tested}
 use Rattle.telegram.proofs.RoundTrip.{any-exact}
 use Rattle.tp20.specs.declared.Opening.{Opening}
@@ -74,6 +74,17 @@ write-then-read s id t carried w before after a sort writes ok reads =
     ap (λ (x : Wrote). take (x .len) (x .buffer)) (down .1) ∙ take-append-seam (anyBytes u) _ in
     let again : readAny s id (anyBytes u) ≡ some u = any-exact s id .written-then-read u (together sort (down .0)) .1 in
     reads ∙ ap answering (ap (readAny s id) start ∙ again)
+
+-- A write that is refused gives 0x04 or 0x0A and length 0, and leaves the buffer as it was.
+pub refused-write : (t : AnyTelegram) (w : Written) (before after : List ℕ) → wrote w after ≡ writing t before → (w .code ≡ 0x00 → ⊥)
+    → ((w .code ≡ 0x04) ⊎ (w .code ≡ 0x0A)) × (w .len ≡ 0) × (after ≡ before)
+unfolding wrote writing writtenIf refusal done
+refused-write t w before after e bad =
+    tested (ltb (length before) 8)
+    (λ short. let h = rw short at e in (inl (ap (λ (y : Wrote). y .code) h), ap (λ (y : Wrote). y .len) h, ap (λ (y : Wrote). y .buffer) h))
+    (λ room. tested (anyFits t)
+    (λ fit. absurd (bad (ap (λ (y : Wrote). y .code) (rw (room, fit) at e))))
+    (λ misfit. let h = rw (room, misfit) at e in (inr (ap (λ (y : Wrote). y .code) h), ap (λ (y : Wrote). y .len) h, ap (λ (y : Wrote). y .buffer) h)))
 
 -- ---- the promises leave no choice
 

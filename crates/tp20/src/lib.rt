@@ -2,6 +2,8 @@
 ghost use mathlib.Core.Path.{_≡_};
 ghost use Rattle.telegram.specs.Telegram.{readAny, timeOf};
 ghost use Rattle.tp20.specs.Face.{told, answering, wrote, writing, said, naming};
+use codes::ERR_NULL_PARAMETER;
+use codes::STATUS_NOERROR;
 
 mod reading; // reading.rt: telegrams out of bytes
 mod writing; // writing.rt: telegrams into bytes
@@ -65,7 +67,7 @@ pub enum Taken {
 
 // The reader's answer: 0x00 and the telegram, or 0x0A and none. What it carries are the first `len` bytes of the payload.
 pub struct Answer {
-    pub code: u8,
+    pub code: u32,
     pub taken: Taken,
     pub payload: [u8; 7],
     pub len: usize,
@@ -73,7 +75,7 @@ pub struct Answer {
 
 // The writer's answer: a code, and how many bytes were written.
 pub struct Written {
-    pub code: u8,
+    pub code: u32,
     pub len: usize,
 }
 
@@ -85,7 +87,7 @@ pub struct Numbers {
 
 // A telegram in numbers for a trace, or the code 0x0A and zeros.
 pub struct Named {
-    pub code: u8,
+    pub code: u32,
     pub kind: u8,
     pub fields: [u32; 5],
     pub payload: [u8; 7],
@@ -107,7 +109,10 @@ pub fn write(telegram: Telegram, bytes: &[u8], buf: &mut [u8]) -> Written
     ensures { λ r. ⌜ wrote r (now (buf .exit)) ≡ writing (said telegram (now (bytes .entry))) (now (buf .entry)) ⌝ }
 {
     if buf.len() < 8 {
-        return Written { code: 0x04, len: 0 };
+        return Written {
+            code: ERR_NULL_PARAMETER,
+            len: 0,
+        };
     }
     match telegram {
         Telegram::Opening(identifier, o) => writing::opening(identifier, o, bytes, buf),
@@ -128,7 +133,7 @@ pub fn name(opening: bool, identifier: u32, bytes: &[u8]) -> Named
     let fields = numbers.fields;
     let payload = answer.payload;
     Named {
-        code: 0,
+        code: STATUS_NOERROR,
         kind: numbers.kind,
         fields,
         payload,

@@ -12,13 +12,14 @@ use crate::OnChannel;
 use crate::Opening;
 use crate::Telegram;
 use crate::fields;
+use codes::ERR_INVALID_MSG;
 
 // No telegram: 0x0A.
 pub fn nothing() -> Named
     ensures { λ r. ⌜ r ≡ naming none ⌝ }
 {
     Named {
-        code: 0x0A,
+        code: ERR_INVALID_MSG,
         kind: 0,
         fields: [0; 5],
         payload: [0; 7],

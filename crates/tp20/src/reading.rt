@@ -14,13 +14,15 @@ use crate::Taken;
 use crate::Telegram;
 use crate::copying;
 use crate::fields;
+use codes::ERR_INVALID_MSG;
+use codes::STATUS_NOERROR;
 
 // No telegram: 0x0A.
 fn refused() -> Answer
     ensures { λ r. ⌜ told r ≡ answering none ⌝ }
 {
     Answer {
-        code: 0x0A,
+        code: ERR_INVALID_MSG,
         taken: Taken::No,
         payload: [0; 7],
         len: 0,
@@ -32,7 +34,7 @@ fn plain(telegram: Telegram) -> Answer
     ensures { λ r. ⌜ told r ≡ answering (some (said telegram [])) ⌝ }
 {
     Answer {
-        code: 0,
+        code: STATUS_NOERROR,
         taken: Taken::Yes(telegram),
         payload: [0; 7],
         len: 0,
@@ -121,7 +123,7 @@ fn negative(identifier: u32, bytes: &[u8]) -> Answer
     if fields::negative(kind) {
         let payload = carried(bytes, 2);
         return Answer {
-            code: 0,
+            code: STATUS_NOERROR,
             taken: Taken::Yes(Telegram::Opening(
                 identifier,
                 Opening::Negative {
@@ -175,7 +177,7 @@ fn data(bytes: &[u8]) -> Answer
     let first = bytes[0];
     let payload = carried(bytes, 1);
     Answer {
-        code: 0,
+        code: STATUS_NOERROR,
         taken: Taken::Yes(Telegram::Channel(OnChannel::Data {
             asks: !is_set(first, 0x20),
             last: is_set(first, 0x10),

@@ -1,5 +1,6 @@
 // Telegrams into bytes: the fields are looked at first, so that a refusal leaves the buffer as it was.
 ghost use mathlib.Core.Path.{_≡_};
+ghost use mathlib.Core.Bool.{true};
 ghost use mathlib.Core.List.{List, [], _∷_, _++_};
 ghost use Prim.Native.Nat.{ℕ, _+_, _≤_};
 ghost use lib.ListN.{length};
@@ -10,12 +11,17 @@ use crate::Opening;
 use crate::Written;
 use crate::copying;
 use crate::fields;
+use codes::ERR_INVALID_MSG;
+use codes::STATUS_NOERROR;
 
 // Fields that the tables don't allow: 0x0A.
 fn refused() -> Written
     ensures { λ r. ⌜ ((buffer : List ℕ) → wrote r buffer ≡ refusal 0x0A buffer) ⌝ }
 {
-    Written { code: 0x0A, len: 0 }
+    Written {
+        code: ERR_INVALID_MSG,
+        len: 0,
+    }
 }
 
 // Writes the bytes where the fields fit.
@@ -26,7 +32,7 @@ fn all(fit: bool, bytes: &[u8], buf: &mut [u8]) -> Written
     if fit {
         copying::put(bytes, buf);
         return Written {
-            code: 0,
+            code: STATUS_NOERROR,
             len: bytes.len(),
         };
     }
@@ -42,7 +48,7 @@ fn both(head: &[u8], rest: &[u8], buf: &mut [u8]) -> Written
     copying::put(head, buf);
     copying::put(rest, &mut buf[n..]);
     Written {
-        code: 0,
+        code: STATUS_NOERROR,
         len: n + rest.len(),
     }
 }
@@ -125,12 +131,12 @@ pub fn opening(identifier: u32, o: Opening, bytes: &[u8], buf: &mut [u8]) -> Wri
 }
 
 // One byte.
-fn one(fit: bool, first: u8, buf: &mut [u8]) -> Written
+fn one(first: u8, buf: &mut [u8]) -> Written
     requires { ⌜ 8 ≤ length (now buf) ⌝ }
-    ensures { λ r. ⌜ wrote r (now (buf .exit)) ≡ writtenIf fit (first ∷ []) (now (buf .entry)) ⌝ }
+    ensures { λ r. ⌜ wrote r (now (buf .exit)) ≡ writtenIf true (first ∷ []) (now (buf .entry)) ⌝ }
 {
     let bytes = [first];
-    all(fit, &bytes, buf)
+    all(true, &bytes, buf)
 }
 
 // Data: AR is 0 where they ask for an acknowledgement.
@@ -156,11 +162,7 @@ fn acknowledge(ready: bool, sn: u8, buf: &mut [u8]) -> Written
     if sn > 15 {
         return refused();
     }
-    one(
-        true,
-        0x80 + 0x20 * fields::bit_value(ready) + 0x10 + sn,
-        buf,
-    )
+    one(0x80 + 0x20 * fields::bit_value(ready) + 0x10 + sn, buf)
 }
 
 // A connection set-up or acknowledge.
@@ -193,8 +195,8 @@ pub fn channel(t: OnChannel, bytes: &[u8], buf: &mut [u8]) -> Written
             t1,
             t3,
         } => connection(ack, block_size, t1, t3, buf),
-        OnChannel::Test => one(true, 0xA3, buf),
-        OnChannel::Break => one(true, 0xA4, buf),
-        OnChannel::Disconnect => one(true, 0xA8, buf),
+        OnChannel::Test => one(0xA3, buf),
+        OnChannel::Break => one(0xA4, buf),
+        OnChannel::Disconnect => one(0xA8, buf),
     }
 }
