@@ -1,16 +1,16 @@
 -- What validity is of ten periodics in columns, periodic by periodic, as code finds it out. Assumes nothing.
-use mathlib.Core.Path.{_≡_, refl, sym, ap, ap₂, _∙_, subst}
-use Prim.Native.Nat.{ℕ, _+_, _*_, _≤_, _<_}
+use mathlib.Core.Path.{_≡_, refl, sym, ap, _∙_}
+use Prim.Native.Nat.{ℕ, _+_, _*_, _≤_}
 use native.Mathlib.Omega.{arith}
 use mathlib.Core.Bool.{Bool, true, false, _&&_, _||_, not}
 use mathlib.Core.Option.{none, some}
 use mathlib.Core.List.{List}
-use lib.ListN.{length, getD, take, drop, length-drop}
+use lib.ListN.{length, getD, drop, length-drop}
 use lib.Seq.{getD-take, drop-drop, length-take-le}
 use lib.Dec.{eqb, leb, ltb, eqb→eq}
 use Rattle.codec.specs.Plain.{if_then_else_, isByte, within, allZero, allBelow}
 use Rattle.codec.specs.Word.{wordAt}
-use Rattle.codec.specs.Code.{Code, byte, word32, both, via, such, mark, many, vacant}
+use Rattle.codec.specs.Code.{byte, word32, both, via, such, mark, many, vacant}
 use Rattle.codec.proofs.Tests.{T-false, and-false}
 use Rattle.codec.proofs.Lists.{all-at, all-take, all-drop}
 use Rattle.codec.proofs.Lawful.{Lawful, word-lawful, mark-lawful}

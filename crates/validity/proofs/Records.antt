@@ -1,21 +1,21 @@
 -- What validity is of a stored record, as code finds it out. Assumes nothing.
 use mathlib.Core.Path.{_≡_, refl, sym, ap, ap₂, _∙_, subst}
-use Prim.Native.Nat.{ℕ, _+_, _*_, _-_, _^_, _≤_, _<_}
+use Prim.Native.Nat.{ℕ, _+_, _*_, _-_, _≤_, _<_}
 use native.Mathlib.Omega.{arith}
-use mathlib.Core.Bool.{Bool, true, false, _&&_, _||_}
+use mathlib.Core.Bool.{Bool, true, false, _&&_}
 use mathlib.Core.List.{List, [], _∷_}
 use lib.ListN.{length, getD, take, drop, length-drop}
 use lib.Seq.{getD-take, drop-drop}
 use lib.Dec.{T, eqb, leb, leb→le, eqb→eq}
 use borrow.Author.Tests.{le-leb, lt-leb}
-use Rattle.codec.specs.Plain.{all, isByte, within, member, allZero}
+use Rattle.codec.specs.Plain.{within, member, allZero}
 use Rattle.codec.specs.Word.{wordAt}
 use Rattle.codec.specs.Code.{Code, byte, word32, both, via, such, many}
-use Rattle.codec.proofs.Tests.{left, right, T-false, and-false, and-true}
+use Rattle.codec.proofs.Tests.{left, right, T-false, and-false}
 use Rattle.codec.proofs.Word.{word-part, word-drop}
-use Rattle.machine.specs.Message.{idOf, idLimit, takes, bit, Rec}
-use Rattle.layout.specs.Record.{row, dataBack, dataFits, body, recBack, rec36, widthFits, outgoing, incoming, outCell, inCell}
-use Rattle.validity.specs.Place.{cell, fieldsOf}
+use Rattle.machine.specs.Message.{idOf, idLimit, takes, bit}
+use Rattle.layout.specs.Record.{row, dataBack, dataFits, body, rec36, widthFits, outgoing, incoming, outCell, inCell}
+use Rattle.validity.specs.Place.{fieldsOf}
 use Rattle.validity.proofs.Parts.{Bytes, less, rest-part, row-valid, row-got, behind-word}
 
 -- ---- the data: size, extra index, twelve bytes

@@ -5,7 +5,7 @@ use Rattle.codec.proofs.Lists.{bytes-of}
 use Prim.Native.Nat.{ℕ}
 use mathlib.Core.List.{List}
 use mathlib.Core.Bool.{Bool, _&&_}
-use mathlib.Core.Path.{_≡_, ap, ap₂, _∙_, sym}
+use mathlib.Core.Path.{ap, ap₂, _∙_, sym}
 use borrow.Author.Needs.{needs}
 use Rattle.validity.proofs.cell.Statement.{statement}
 use Rattle.validity.proofs.cell.Tie as tie

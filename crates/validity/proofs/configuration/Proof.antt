@@ -8,7 +8,7 @@ use lib.Dec.{leb}
 use Prim.Native.Nat.{ℕ}
 use mathlib.Core.List.{List}
 use mathlib.Core.Bool.{_&&_}
-use mathlib.Core.Path.{_≡_, ap, _∙_}
+use mathlib.Core.Path.{ap, _∙_}
 use borrow.Author.Needs.{needs}
 use Rattle.validity.proofs.configuration.Statement.{statement}
 use Rattle.validity.proofs.configuration.Tie as tie

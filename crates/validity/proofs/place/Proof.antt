@@ -1,9 +1,7 @@
 -- `validity::place` meets its contract, for periodics and for filters. Assumes nothing.
 use Rattle.validity.specs.Place.{placesSize, placeGood}
-use Prim.Native.Nat.{ℕ}
-use mathlib.Core.List.{List}
 use mathlib.Core.Bool.{Bool}
-use mathlib.Core.Path.{_≡_, ap, _∙_, sym}
+use mathlib.Core.Path.{ap, _∙_, sym}
 use Rattle.validity.proofs.place.Statement.{statement}
 use Rattle.validity.proofs.place.Tie as tie
 

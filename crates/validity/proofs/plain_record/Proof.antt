@@ -3,11 +3,11 @@ use Rattle.validity.proofs.Records.{rec-small, rec-large, rec-good}
 use Rattle.codec.specs.Plain.{allZero}
 use native.Mathlib.Omega.{arith}
 use lib.ListN.{take, drop}
-use lib.Dec.{eqb, leb}
+use lib.Dec.{eqb}
 use Prim.Native.Nat.{ℕ, _-_}
 use mathlib.Core.List.{List}
-use mathlib.Core.Bool.{Bool, true, false, _&&_}
-use mathlib.Core.Path.{_≡_, ap, _∙_}
+use mathlib.Core.Bool.{_&&_}
+use mathlib.Core.Path.{ap, _∙_}
 use borrow.Author.Needs.{needs}
 use Rattle.validity.proofs.plain_record.Statement.{statement}
 use Rattle.validity.proofs.plain_record.Tie as tie

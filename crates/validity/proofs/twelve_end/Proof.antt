@@ -7,7 +7,7 @@ use lib.Dec.{eqb}
 use Prim.Native.Nat.{ℕ, _+_, _*_, _-_, _/_, _^_, min}
 use mathlib.Core.List.{List}
 use mathlib.Core.Bool.{Bool, _&&_}
-use mathlib.Core.Path.{_≡_, ap, ap₂, _∙_}
+use mathlib.Core.Path.{ap, ap₂, _∙_}
 use borrow.Author.Needs.{needs}
 use Rattle.validity.proofs.twelve_end.Statement.{statement}
 use Rattle.validity.proofs.twelve_end.Tie as tie
