@@ -28,8 +28,8 @@ matching wide x f = Bool·beq wide (f .wide) && allBelow (f .size) (λ k. eqb (b
 pub same-bytes : (fs : Slots Filter) (wide : Bool) (a b : List ℕ) → ((k : ℕ) → getD a k 0 ≡ getD b k 0) → passes fs wide a ≡ passes fs wide b
 unfolding passes hits matches
 same-bytes fs wide a b h =
-    let fits : (x : ℕ → ℕ) → Bool = λ x. anySlot (λ f. Bool·beq (f .block) false && matching wide x f) fs && not (anySlot (λ f. Bool·beq (f .block) true && matching wide x f) fs) in
-    λ i. fits (λ k. h k i)
+    let hit : Bool → (ℕ → ℕ) → Bool = λ block x. anySlot (λ f. Bool·beq (f .block) block && matching wide x f) fs in
+    λ i. hit false (λ k. h k i) && not (hit true (λ k. h k i))
 
 pub padded : (fs : Slots Filter) (wide : Bool) (bytes : List ℕ) → passes fs wide (twelve bytes) ≡ passes fs wide bytes
 unfolding twelve

@@ -1,9 +1,9 @@
 -- The part of a region that holds the filters: its columns, what code reads in them, and the part with another filter at a place. Assumes nothing.
-use mathlib.Core.Path.{_≡_, refl, sym, ap, ap₂, _∙_, subst}
+use mathlib.Core.Path.{_≡_, refl, sym, ap, _∙_, subst}
 use Prim.Native.Nat.{ℕ, _+_, _*_, _-_, _≤_, _<_}
 use native.Mathlib.Omega.{arith}
 use mathlib.Core.Bool.{Bool, true, false, not, _&&_}
-use mathlib.Core.Option.{Option, none, some}
+use mathlib.Core.Option.{Option, none}
 use mathlib.Core.List.{List, [], _∷_, map}
 use lib.Dec.{T, eqb, leb, eqb→eq, lt→ltb}
 use lib.ListN.{length, getD, set, take, drop, length-set, length-map, List·getD-map}
@@ -12,12 +12,12 @@ use borrow.Author.Tests.{eq-eqb, ne-eqb}
 use mir.Val.{boolByte}
 use borrow.Rule.Slice.PartMut.{putMid}
 use Rattle.codec.specs.Plain.{if_then_else_, within, all, isByte, allZero}
-use Rattle.codec.specs.Code.{Code, byte, via, such, mark, markOf, many, beside, eachVia}
+use Rattle.codec.specs.Code.{Code, byte, via, such, mark, many, beside, eachVia}
 use Rattle.codec.proofs.Tests.{left, right, true-T}
-use Rattle.codec.proofs.Lawful.{Lawful, byte-lawful, mark-lawful, mark-ok}
+use Rattle.codec.proofs.Lawful.{byte-lawful, mark-lawful, mark-ok}
 use Rattle.codec.proofs.Many.{many-make}
 use Rattle.codec.proofs.Columns.{beside-count}
-use Rattle.codec.proofs.Cells.{all-here, Cell, cell-at, cell-first, cell-next, cell-last, Stored, as-it-was, entry-is, entry-byte, entry-stored, byte-stored, each-ok, each-put, place-set}
+use Rattle.codec.proofs.Cells.{all-here, Cell, cell-first, cell-next, cell-last, Stored, as-it-was, entry-is, entry-byte, entry-stored, byte-stored, each-ok, each-put, place-set}
 use Rattle.machine.specs.Message.{takes}
 use Rattle.machine.specs.Filter.{Slots, Filter, taken, hits, passes}
 use Rattle.machine.proofs.Slots.{any-empty}

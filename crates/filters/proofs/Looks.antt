@@ -7,16 +7,16 @@ use native.Mathlib.Numerals.{add-one}
 use native.Mathlib.Omega.{arith}
 use mathlib.Core.Logic.{⊎-elim}
 use mathlib.Core.Bool.{Bool, true, false, not, _&&_, _||_, Bool·beq, and-true, and-false, or-false, or-true}
-use mathlib.Core.Option.{Option, none, some}
-use mathlib.Core.List.{List, [], _∷_}
+use mathlib.Core.Option.{none, some}
+use mathlib.Core.List.{List, []}
 use lib.ListN.{length, getD, drop}
 use lib.Dec.{eqb}
 use lib.Bits.{bitAnd}
 use borrow.Author.Tests.{eq-eqb, ne-eqb}
-use Rattle.codec.specs.Plain.{if_then_else_, allBelow}
+use Rattle.codec.specs.Plain.{allBelow}
 use Rattle.machine.specs.Filter.{Slots, Filter, anySlot, matches, hits, passes}
 use Rattle.machine.proofs.Slots.{any-none, any-some, any-end}
-use Rattle.filters.specs.Part.{listed, filterAt, filtersIn}
+use Rattle.filters.specs.Part.{filterAt, filtersIn}
 use Rattle.filters.proofs.Fill.{listed-long, listed-at}
 
 -- ---- a test of every number below n

@@ -1,11 +1,11 @@
 -- The filters in the region of an open channel: the part that is lent, and what each call promises. Assumes nothing.
-use mathlib.Core.Path.{_≡_, refl, sym, ap, _∙_, subst}
+use mathlib.Core.Path.{_≡_, refl, sym, ap, _∙_}
 use Prim.Native.Nat.{ℕ, zero, suc, _+_, _-_, _≤_, _<_}
 use native.Mathlib.Omega.{arith}
 use mathlib.Core.Bool.{Bool, true, false, _&&_}
 use mathlib.Core.Option.{Option, none, some}
-use mathlib.Core.List.{List, [], _∷_}
-use lib.Dec.{leb, leb→le}
+use mathlib.Core.List.{List, []}
+use lib.Dec.{leb}
 use lib.ListN.{length, getD, set, take, drop, List·getD-eq-default}
 use lib.Seq.{getD-take, getD-drop}
 use borrow.Author.Tests.{le-leb, leb-false}
@@ -13,13 +13,14 @@ use borrow.Rule.Slice.PartMut.{putMid}
 use Rattle.codec.specs.Plain.{within, zeros}
 use Rattle.codec.specs.Word.{wordAt}
 use Rattle.codec.specs.Code.{byte, via, such, mark, both, many, beside, eachVia}
-use Rattle.codec.proofs.Tests.{left, right, true-T}
+use Rattle.codec.proofs.Tests.{true-T}
 use Rattle.machine.specs.Codes.{threeRates}
 use Rattle.machine.specs.Filter.{Slots, Filter, noneYet, free, taken, has}
 use Rattle.machine.specs.Channel.{filterCode, filterOf, startFilter, stopFilter, clear, says, Outcome, withFilters}
 use Rattle.layout.specs.Record.{row}
 use Rattle.layout.specs.Memory.{filterColumns, filters}
 use Rattle.layout.specs.Promise.{gives, Opened, callOutcome}
+use Rattle.layout.proofs.Held.{within-low, within-high}
 use Rattle.layout.proofs.Places.{fl}
 use Rattle.layout.proofs.Region.{openOf, word-of, stays, moves, flags-part, filters-part}
 use Rattle.filters.specs.Part.{FilterPart}
@@ -45,14 +46,12 @@ has-none s (suc n) h w =
     let over : 10 < suc n = leb-false (suc n) 10 (ap (λ (b : Bool). b && leb (suc n) 10) (sym (le-leb 1 (suc n) (omega arith))) ∙ w) in
     ap taken (List·getD-eq-default s none (omega arith))
 
-module _ (n : ℕ) (w : within 1 10 n ≡ true) where
-  pub number-low : 1 ≤ n
-  unfolding within
-  number-low = leb→le 1 n (left (leb 1 n) (leb n 10) (true-T (within 1 10 n) w))
-
-  pub number-high : n ≤ 10
-  unfolding within
-  number-high = leb→le n 10 (right (leb 1 n) (leb n 10) (true-T (within 1 10 n) w))
+-- the place of one of those numbers, counted from 0
+pub place-of : (n : ℕ) → within 1 10 n ≡ true → (1 ≤ n) × (n - 1 < 10)
+place-of n w =
+    let t = true-T (within 1 10 n) w in
+    let l = within-low 1 10 n t in
+    let h = within-high 1 10 n t in (l, omega arith)
 
 module _ (r : List ℕ) (f : Opened r) where
   pub part-lent : FilterPart (take 270 (drop 10 r))
@@ -92,24 +91,24 @@ module _ (r : List ℕ) (f : Opened r) where
       pub no-number : within 1 10 number ≡ false → gives 0x16 0 [] r ≡ callOutcome threeRates t r (stopFilter number)
       no-number w = refused (has-none (openOf r .filters) number ten-places w)
 
-      module _ (l : 1 ≤ number) (h : number ≤ 10) where
+      module _ (w : within 1 10 number ≡ true) where
         abbrev i : ℕ
         i = number - 1
 
         here : getD r (10 + i) 0 ≡ getD (take 270 (drop 10 r)) i 0
-        here = sym (getD-take 270 (drop 10 r) i 0 (omega arith) ∙ getD-drop 10 r i 0)
+        here = let k = place-of number w in sym (getD-take 270 (drop 10 r) i 0 (omega arith) ∙ getD-drop 10 r i 0)
 
         held-here : (b : Bool) → ((flags : ℕ) → taken (getD (filters flags .get (take 270 (drop 10 r))) i none) ≡ b) → has (openOf r .filters) number ≡ b
-        held-here b e = has-place (openOf r .filters) number l ∙ ap (λ (s : Slots Filter). taken (getD s i none)) (sym (held-is 0)) ∙ e 0
+        held-here b e = has-place (openOf r .filters) number (place-of number w .0) ∙ ap (λ (s : Slots Filter). taken (getD s i none)) (sym (held-is 0)) ∙ e 0
 
         pub not-held : getD r (10 + i) 0 ≡ 0 → gives 0x16 0 [] r ≡ callOutcome threeRates t r (stopFilter number)
-        not-held e = refused (held-here false (is-empty (take 270 (drop 10 r)) part-lent i (omega arith) (sym here ∙ e)))
+        not-held e = refused (held-here false (is-empty (take 270 (drop 10 r)) part-lent i (place-of number w .1) (sym here ∙ e)))
 
         pub stopped : (getD r (10 + i) 0 ≡ 0 → ⊥) → (ys : List ℕ) → ((flags : ℕ) → ys ≡ filters flags .put (set (filters flags .get (take 270 (drop 10 r))) i none))
             → gives 0 0 [] (putMid 10 270 r ys) ≡ callOutcome threeRates t r (stopFilter number)
         stopped n ys y =
             moves r f threeRates t (stopFilter number) _ 0 0 [] _
-            (stop-done threeRates t (openOf r) number (held-here true (is-taken (take 270 (drop 10 r)) part-lent i (omega arith) (λ e. n (here ∙ e)))))
+            (stop-done threeRates t (openOf r) number (held-here true (is-taken (take 270 (drop 10 r)) part-lent i (place-of number w .1) (λ e. n (here ∙ e)))))
             (filters-part r f .becomes ys (set (openOf r .filters) i none) (moved ys i none y))
 
     pub all-cleared : (ys : List ℕ) → ys ≡ zeros 270 → gives 0 0 [] (putMid 10 270 r ys) ≡ callOutcome threeRates t r (clear 4)

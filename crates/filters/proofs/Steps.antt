@@ -3,19 +3,20 @@ use mathlib.Core.Path.{_≡_, refl, sym, ap, ap₂, _∙_}
 use Prim.Native.Nat.{ℕ, zero, suc, _+_, _-_, _/_, _%_, _≤_, _<_}
 use native.Mathlib.Omega.{arith}
 use mathlib.Core.Bool.{Bool, true, false, not, _&&_, _||_}
-use mathlib.Core.Option.{Option, none, some}
+use mathlib.Core.Option.{none, some}
 use mathlib.Core.List.{List, [], _∷_}
-use lib.Dec.{T, eqb, leb, ltb, eqb→eq, leb→le}
+use lib.Dec.{eqb, leb, ltb, eqb→eq, nleb→lt, nltb→le}
 use lib.ListN.{length, set, take, drop}
-use borrow.Author.Tests.{lt-ltb, le-ltb, le-leb, lt-leb, ltb-false, leb-false, eqb-false, not-false}
+use borrow.Author.Tests.{lt-ltb, le-ltb}
 use Rattle.codec.specs.Plain.{if_then_else_, within}
 use Rattle.codec.specs.Word.{wordAt}
-use Rattle.codec.proofs.Tests.{left, right, true-T}
 use Rattle.machine.specs.Codes.{codeOf}
 use Rattle.machine.specs.Message.{bit, protocolOf, sizeOf, txFlagsOf, wideOf, dataOf, twelve, takes}
 use Rattle.machine.specs.Filter.{noneYet, free, has}
-use Rattle.machine.specs.Channel.{Open, Chan, opened, withFilters, startFilter, stopFilter, clear, says, Outcome, unless, doneWith, shorter, filterCode, filterOf, onStartFilter, onStopFilter, onClear, onOpen}
+use Rattle.machine.specs.Channel.{Open, opened, withFilters, startFilter, stopFilter, clear, says, unless, doneWith, shorter, filterCode, filterOf, onStartFilter, onStopFilter, onClear, onOpen}
 use Rattle.layout.specs.Memory.{typeOf, filterParts}
+use Rattle.layout.proofs.Tables.{failed, yes, neither}
+use Rattle.layout.proofs.Held.{within-low, within-high}
 use Rattle.filters.specs.Part.{Checked}
 
 -- ---- a start's checks, those of one code together
@@ -93,46 +94,24 @@ module _ (flags kind : ℕ) (mask pattern : List ℕ) (place : ℕ) where
 
 -- ---- a start that nothing refuses
 
-none-true : (a b c d e : Bool) → inOrder a b c d e ≡ 0 → (a ≡ false) × (b ≡ false) × (c ≡ false) × (d ≡ false) × (e ≡ false)
-unfolding codeOf
-none-true true b c d e z = absurd (omega arith)
-none-true false true c d e z = absurd (omega arith)
-none-true false false true d e z = absurd (omega arith)
-none-true false false false true e z = absurd (omega arith)
-none-true false false false false true z = absurd (omega arith)
-none-true false false false false false z = (refl, refl, refl, refl, refl)
-
-or-none : (a b : Bool) → (a || b) ≡ false → (a ≡ false) × (b ≡ false)
-or-none true b e = (e, absurd (eqb-false 1 1 e refl))
-or-none false b e = (refl, e)
-
 module _ (o : Open) (kind : ℕ) (mask pattern : List ℕ) (z : filterCode o kind mask pattern ≡ 0) where
-  passed-all : (shorter mask 1 || shorter pattern 1 ≡ false) × (not (within 1 2 kind) ≡ false)
-      × (badProtocol (o .config .flags) kind mask pattern (free (o .filters)) ≡ false)
-      × (not (goodShape (o .config .flags) kind mask pattern (free (o .filters))) ≡ false) × (leb 10 (free (o .filters)) ≡ false)
-  passed-all = none-true _ _ _ _ _ (sym (grouped (o .config .flags) kind mask pattern (free (o .filters)) o refl refl) ∙ z)
-
   pub room : free (o .filters) < 10
-  room = leb-false 10 (free (o .filters)) (passed-all .4)
+  unfolding filterCode
+  room = nleb→lt 10 (free (o .filters)) (failed _ tt z .1 .1 .1 .1 .1 .1 .1 .1 .0)
 
   pub checked : Checked kind mask pattern
-  unfolding shorter within
+  unfolding filterCode shorter
   checked =
-      let p = passed-all in
-      let l = or-none (shorter mask 1) (shorter pattern 1) (p .0) in
-      let k : T (leb 1 kind && leb kind 2) = true-T (within 1 2 kind) (not-false (within 1 2 kind) (p .1)) in
-      let s = eqb (sizeOf mask) (sizeOf pattern) in
-      let x = eqb (txFlagsOf mask) (txFlagsOf pattern) in
-      let n = leb 1 (sizeOf mask) && leb (sizeOf mask) 12 in
-      let w = takes (o .config .flags) (wideOf mask) in
-      let g : T ((s && x) && (n && w)) = true-T ((s && x) && (n && w)) (not-false ((s && x) && (n && w)) (p .3)) in
+      let f = failed _ tt z in
+      let long = neither (ltb (length mask) 36) (ltb (length pattern) 36) (f .0) in
+      let kind-fits = yes (within 1 2 kind) (f .1 .0) in
       record {
-        low = leb→le 1 kind (left (leb 1 kind) (leb kind 2) k);
-        high = leb→le kind 2 (right (leb 1 kind) (leb kind 2) k);
-        mask-long = ltb-false (length mask) 36 (l .0);
-        pattern-long = ltb-false (length pattern) 36 (l .1);
-        same = eqb→eq (sizeOf mask) (sizeOf pattern) (left s x (left (s && x) (n && w) g));
-        small = leb→le (sizeOf mask) 12 (right (leb 1 (sizeOf mask)) (leb (sizeOf mask) 12) (left n w (right (s && x) (n && w) g)));
+        low = within-low 1 2 kind kind-fits;
+        high = within-high 1 2 kind kind-fits;
+        mask-long = nltb→le (length mask) 36 (long .0);
+        pattern-long = nltb→le (length pattern) 36 (long .1);
+        same = eqb→eq (sizeOf mask) (sizeOf pattern) (yes (eqb (sizeOf mask) (sizeOf pattern)) (f .1 .1 .1 .1 .0));
+        small = within-high 1 12 (sizeOf mask) (yes (within 1 12 (sizeOf mask)) (f .1 .1 .1 .1 .1 .0));
       }
 
 type-is : (kind : ℕ) → 1 ≤ kind → kind ≤ 2 → typeOf (eqb kind 2) ≡ kind

@@ -1,9 +1,8 @@
 // The filters of a channel: which frames they let in, and how one is started, stopped and all are cleared.
 ghost use mathlib.Core.Path.{_≡_};
-ghost use mathlib.Core.List.{[], _∷_};
+ghost use mathlib.Core.List.{[]};
 ghost use mathlib.Core.Option.{Option, some};
 ghost use Prim.Native.Nat.{ℕ, _+_, _≤_, _<_};
-ghost use lib.Dec.{T};
 ghost use lib.ListN.{length, getD, set, take, drop};
 ghost use Rattle.codec.specs.Plain.{within};
 ghost use Rattle.machine.specs.Codes.{threeRates};

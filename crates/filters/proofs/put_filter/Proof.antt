@@ -1,5 +1,4 @@
 -- `filters::put_filter` meets its contract: what it stores are the parts of the filter. Assumes nothing.
-use Prim.Native.Nat.{ℕ}
 use native.Mathlib.Omega.{arith}
 use mathlib.Core.Option.{some}
 use denote.Ref.{now}

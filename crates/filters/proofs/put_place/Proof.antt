@@ -1,9 +1,6 @@
 -- `filters::put_place` meets its contract: three bytes and two rows are stored, each in its column. Assumes nothing.
-use mathlib.Core.Path.{_≡_, sym, _∙_}
-use mathlib.Core.List.{List}
-use Prim.Native.Nat.{ℕ, _+_, _*_, _≤_}
 use native.Mathlib.Omega.{arith}
-use lib.ListN.{length, length-set}
+use lib.ListN.{length-set}
 use denote.Ref.{now}
 use borrow.Author.Needs.{needs}
 use Rattle.codec.proofs.Lists.{bytes-of}

@@ -2,14 +2,12 @@
 use mathlib.Core.Path.{_≡_, refl, sym, _∙_}
 use mathlib.Core.Bool.{true}
 use mathlib.Core.Option.{none}
-use mathlib.Core.List.{List}
-use Prim.Native.Nat.{ℕ, _≤_}
 use native.Mathlib.Omega.{arith}
 use denote.Ref.{now}
 use borrow.Author.Needs.{needs}
 use borrow.Author.Tests.{not-true, not-false}
 use Rattle.codec.specs.Plain.{within}
-use Rattle.filters.proofs.OnRegion.{number-low, number-high, part-lent, no-number, not-held, stopped}
+use Rattle.filters.proofs.OnRegion.{place-of, part-lent, no-number, not-held, stopped}
 use Rattle.filters.proofs.stop_filter.Statement.{statement}
 use Rattle.filters.proofs.stop_filter.Tie as tie
 
@@ -23,23 +21,22 @@ returns c =
     λ t. no-number (now (start .args .r)) (start .pre) t (start .args .number) (sym (c .before .between .ensures) ∙ not-true _ (c .if1 .taken))
 
 sub-i : tie.Need-sub-i
-sub-i c = omega (arith, number-low _ (one-of-ten c))
+sub-i c = omega (arith, place-of _ (one-of-ten c) .0)
 
 slice-read-if2 : tie.Need-slice-read-if2
-slice-read-if2 c = let l = c .before .before .before .before .pre .long in omega (arith, number-high _ (one-of-ten (c .before)))
+slice-read-if2 c = let l = c .before .before .before .before .pre .long in omega (arith, place-of _ (one-of-ten (c .before)) .1)
 
 returns-2 : tie.Need-returns-2
 returns-2 c =
     let at = c .before .before in
     let start = at .before .before .before in
-    λ t. not-held (now (start .args .r)) (start .pre) t (start .args .number) (number-low _ (one-of-ten at)) (number-high _ (one-of-ten at)) (c .if2 .taken)
+    λ t. not-held (now (start .args .r)) (start .pre) t (start .args .number) (one-of-ten at) (c .if2 .taken)
 
 put-place-requires : tie.Need-put-place-requires
 put-place-requires c κs =
     let at = c .before .before .before .before .before in
     let start = at .before .before .before in
-    let h = number-high _ (one-of-ten at) in
-    (part-lent (now (start .args .r)) (start .pre), omega arith, refl, refl)
+    (part-lent (now (start .args .r)) (start .pre), place-of _ (one-of-ten at) .1, refl, refl)
 
 returns-3 : tie.Need-returns-3
 returns-3 c =
@@ -47,7 +44,7 @@ returns-3 c =
     let at = put .before .before .before .before .before .before in
     let start = at .before .before .before in
     λ t.
-    stopped (now (start .args .r)) (start .pre) t (start .args .number) (number-low _ (one-of-ten at)) (number-high _ (one-of-ten at)) (put .before .before .before .before .if2 .left)
+    stopped (now (start .args .r)) (start .pre) t (start .args .number) (one-of-ten at) (put .before .before .before .before .if2 .left)
     (put .put-place .last .0) (λ flags. put .put-place .ensures flags none refl)
 
 pub stop-filter-spec : {M : Type 1} → statement M

@@ -1,17 +1,15 @@
 -- `filters::verdict` meets its contract. The outer loop's invariant is `Seen` of the places below f; the inner one's adds that place f has a filter of
 -- the frame's width, and that each byte below b fits. Assumes nothing.
 use mathlib.Core.Path.{_≡_, refl, sym, _∙_}
-use mathlib.Core.Bool.{Bool, true, false, Bool·beq}
-use mathlib.Core.List.{List, []}
-use Prim.Native.Nat.{ℕ, _+_, _-_, _≤_, _<_}
+use mathlib.Core.Bool.{true, Bool·beq}
+use mathlib.Core.List.{[]}
+use Prim.Native.Nat.{_+_, _-_, _≤_, _<_}
 use native.Mathlib.Omega.{arith}
 use lib.Dec.{eqb}
-use lib.ListN.{length, getD}
-use denote.Ref.{now}
+use lib.ListN.{getD}
 use borrow.Author.Needs.{needs}
 use borrow.Author.Tests.{eq-eqb, ne-eqb, not-true, not-false}
 use Rattle.codec.specs.Plain.{allBelow}
-use Rattle.filters.specs.Part.{filtersIn}
 use Rattle.filters.proofs.Looks.{all-more, fitsAt, Looked, looked-none, looked-all, empty-place, other-width, other-byte, block-matches, pass-matches}
 use Rattle.filters.proofs.verdict.Statement.{statement}
 use Rattle.filters.proofs.verdict.Tie as tie
