@@ -1,14 +1,12 @@
 -- The filters in the region of an open channel: the part that is lent, and what each call promises. Assumes nothing.
 use mathlib.Core.Path.{_≡_, refl, sym, ap, _∙_}
-use Prim.Native.Nat.{ℕ, zero, suc, _+_, _-_, _≤_, _<_}
+use Prim.Native.Nat.{ℕ, _+_, _-_, _≤_, _<_}
 use native.Mathlib.Omega.{arith}
-use mathlib.Core.Bool.{Bool, true, false, _&&_}
+use mathlib.Core.Bool.{Bool, true, false}
 use mathlib.Core.Option.{Option, none, some}
 use mathlib.Core.List.{List, []}
-use lib.Dec.{leb}
-use lib.ListN.{length, getD, set, take, drop, List·getD-eq-default}
+use lib.ListN.{length, getD, set, take, drop}
 use lib.Seq.{getD-take, getD-drop}
-use borrow.Author.Tests.{le-leb, leb-false}
 use borrow.Rule.Slice.PartMut.{putMid}
 use Rattle.codec.specs.Plain.{within, zeros}
 use Rattle.codec.specs.Word.{wordAt}
@@ -16,6 +14,7 @@ use Rattle.codec.specs.Code.{byte, via, such, mark, both, many, beside, eachVia
 use Rattle.codec.proofs.Tests.{true-T}
 use Rattle.machine.specs.Codes.{threeRates}
 use Rattle.machine.specs.Filter.{Slots, Filter, noneYet, free, taken, has}
+use Rattle.machine.proofs.Slots.{has-place, has-none}
 use Rattle.machine.specs.Channel.{filterCode, filterOf, startFilter, stopFilter, clear, says, Outcome, withFilters}
 use Rattle.layout.specs.Record.{row}
 use Rattle.layout.specs.Memory.{filterColumns, filters}
@@ -31,20 +30,6 @@ use Rattle.filters.proofs.Steps.{start-refused, start-done, stop-refuse
 cleared : (flags : ℕ) → zeros 270 ≡ filters flags .put noneYet
 unfolding filters eachVia beside filterColumns row many via such both mark byte noneYet
 cleared flags = refl
-
--- the place of a number, where there is one
-has-place : {A : Type 0} (s : Slots A) (n : ℕ) → 1 ≤ n → has s n ≡ taken (getD s (n - 1) none)
-unfolding has
-has-place s zero h = absurd (omega arith)
-has-place s (suc n) h = let e : n ≡ suc n - 1 = omega arith in ap (λ (k : ℕ). taken (getD s k none)) e
-
--- ten places have the numbers 1 to 10
-has-none : {A : Type 0} (s : Slots A) (n : ℕ) → length s ≡ 10 → within 1 10 n ≡ false → has s n ≡ false
-unfolding has taken within
-has-none s zero h w = refl
-has-none s (suc n) h w =
-    let over : 10 < suc n = leb-false (suc n) 10 (ap (λ (b : Bool). b && leb (suc n) 10) (sym (le-leb 1 (suc n) (omega arith))) ∙ w) in
-    ap taken (List·getD-eq-default s none (omega arith))
 
 -- the place of one of those numbers, counted from 0
 pub place-of : (n : ℕ) → within 1 10 n ≡ true → (1 ≤ n) × (n - 1 < 10)
@@ -89,7 +74,7 @@ module _ (r : List ℕ) (f : Opened r) where
       refused e = stays r f threeRates t (stopFilter number) 0x16 0 [] (stop-refused threeRates t (openOf r) number e)
 
       pub no-number : within 1 10 number ≡ false → gives 0x16 0 [] r ≡ callOutcome threeRates t r (stopFilter number)
-      no-number w = refused (has-none (openOf r .filters) number ten-places w)
+      no-number w = refused (has-none (openOf r .filters) number (ap (λ (k : ℕ). within 1 k number) ten-places ∙ w))
 
       module _ (w : within 1 10 number ≡ true) where
         abbrev i : ℕ

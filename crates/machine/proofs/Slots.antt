@@ -1,14 +1,17 @@
 -- Places that a loop looks at from the front: the first empty one, and a test of the taken ones. Assumes nothing.
 use mathlib.Core.Path.{_≡_, refl, sym, ap, _∙_}
-use Prim.Native.Nat.{ℕ, suc, _+_, _≤_, _<_, suc-le-suc}
+use Prim.Native.Nat.{ℕ, zero, suc, _+_, _-_, _≤_, _<_, suc-le-suc}
 use native.Mathlib.Numerals.{add-one}
 use native.Mathlib.Omega.{arith}
-use mathlib.Core.Bool.{Bool, true, false, _||_}
+use mathlib.Core.Bool.{Bool, true, false, _&&_, _||_}
 use mathlib.Core.Option.{Option, none, some}
 use mathlib.Core.List.{[], _∷_}
-use lib.ListN.{length, getD, drop, drop-of-length-le}
+use lib.Dec.{leb}
+use lib.ListN.{length, getD, drop, drop-of-length-le, List·getD-eq-default}
 use lib.Seq.{drop-cons}
-use Rattle.machine.specs.Filter.{Slots, free, taken, anySlot}
+use borrow.Author.Tests.{le-leb, leb-false}
+use Rattle.codec.specs.Plain.{within}
+use Rattle.machine.specs.Filter.{Slots, free, taken, has, anySlot}
 
 module _ {A : Type 0} where
   pub free-least : (s : Slots A) → free s ≤ length s
@@ -62,3 +65,19 @@ module _ {A : Type 0} where
       pub any-end : length s ≤ i → anySlot p (drop i s) ≡ false
       unfolding anySlot
       any-end h = ap (anySlot p) (drop-of-length-le s h)
+
+-- ---- the numbers of places, from 1 on
+
+-- the place of a number
+pub has-place : {A : Type 0} (s : Slots A) (n : ℕ) → 1 ≤ n → has s n ≡ taken (getD s (n - 1) none)
+unfolding has
+has-place s zero h = absurd (omega arith)
+has-place s (suc n) h = let e : n ≡ suc n - 1 = omega arith in ap (λ (k : ℕ). taken (getD s k none)) e
+
+-- no place has a number that is not one of theirs
+pub has-none : {A : Type 0} (s : Slots A) (n : ℕ) → within 1 (length s) n ≡ false → has s n ≡ false
+unfolding has taken within
+has-none s zero w = refl
+has-none s (suc n) w =
+    let over : length s < suc n = leb-false (suc n) (length s) (ap (λ (b : Bool). b && leb (suc n) (length s)) (sym (le-leb 1 (suc n) (omega arith))) ∙ w) in
+    ap taken (List·getD-eq-default s none (omega arith))
