@@ -1,0 +1,3 @@
+-- What a recording holds, and what the reader of one answers. Assumes nothing.
+pub mod Events
+pub mod Found
