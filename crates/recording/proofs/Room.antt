@@ -224,7 +224,7 @@ small-code rates d e = below-128 table tt (step rates d e .1 .code) (codes-in-ta
 pub code-byte : (rates : List ℕ) (d : Device) (e : Event) → bytesOf (step rates d e .1 .code) ≡ step rates d e .1 .code ∷ []
 code-byte rates d e = small-number (step rates d e .1 .code) (small-code rates d e)
 
-one-at-least : (e : Event) → 1 ≤ least e
+pub one-at-least : (e : Event) → 1 ≤ least e
 one-at-least (connect l p f r) = omega arith
 one-at-least (call k x) = omega arith
 one-at-least (frame l w n b) = omega arith
