@@ -13,15 +13,14 @@ use Rattle.codec.specs.Plain.{zeros}
 use Rattle.codec.specs.Code.{via, such, upTo, listOf, upToOne}
 use Rattle.codec.proofs.Many.{some-one}
 use Rattle.machine.specs.Message.{Rec, shown}
-use Rattle.machine.specs.Channel.{Open, withSending, sending}
+use Rattle.machine.specs.Channel.{opened, Open, withSending}
 use Rattle.layout.specs.Record.{rec36, outCell}
-use Rattle.layout.specs.Memory.{periodics, region}
+use Rattle.layout.specs.Memory.{region}
 use Rattle.layout.specs.Promise.{Opened}
 use Rattle.layout.proofs.Memory.{out-lawful, shown-is}
 use Rattle.layout.proofs.Sizes.{out-size}
-use Rattle.layout.proofs.Good.{fl, Good, ok-good}
-use Rattle.layout.proofs.Region.{openOf, fine, byte-of, written-part, flight-part}
-use Rattle.sending.specs.Store.{written}
+use Rattle.layout.proofs.Good.{Fine, fl, Good, ok-good}
+use Rattle.layout.proofs.Region.{openOf, fine, byte-of, written-part, flight-part, opened-again, open-again}
 use Rattle.sending.proofs.Store.{count-at}
 
 -- ---- the flight store: one record, or zeros
@@ -53,7 +52,7 @@ pub record Flies (flags : ℕ) (x : Option Rec) (bytes : List ℕ) : Type 0 wher
 
 -- ---- the region of an open channel
 
-module _ (r : List ℕ) (f : Opened r) where
+module _ {r : List ℕ} (f : Opened r) where
   abbrev pub o : Open
   o = openOf r
 
@@ -91,6 +90,11 @@ module _ (r : List ℕ) (f : Opened r) where
             held = some-one (outCell (fl o)) x t;
           }
 
-  -- with a record in flight
-  pub put-in-flight : (x : Rec) (ys : List ℕ) → ys ≡ 1 ∷ shown x → putMid 1307 37 r ys ≡ region .put (withSending o (o .sending .periodics) (o .sending .written) (some x))
-  put-in-flight x ys e = flight-part r f .becomes ys (some x) (e ∙ ap {B = List ℕ} (λ (s : List ℕ). 1 ∷ s) (shown-is x) ∙ sym (one-put (fl o) x))
+-- with a record in flight
+pub put-in-flight : (o : Open) → Fine (opened o) → (x : Rec) {m ys : List ℕ} → m ≡ region .put (opened o) → ys ≡ 1 ∷ shown x
+    → putMid 1307 37 m ys ≡ region .put (withSending o (o .sending .periodics) (o .sending .written) (some x))
+put-in-flight o t x {ys = ys} is e =
+    let r : List ℕ = region .put (opened o) in
+    ap (λ (s : List ℕ). putMid 1307 37 s ys) is
+    ∙ flight-part r (opened-again o t) .becomes ys (some x) (e ∙ ap {B = List ℕ} (λ (s : List ℕ). 1 ∷ s) (shown-is x) ∙ sym (one-put (fl (openOf r)) x))
+    ∙ ap (λ (q : Open). region .put (withSending q (q .sending .periodics) (q .sending .written) (some x))) (open-again o t)

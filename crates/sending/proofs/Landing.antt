@@ -6,23 +6,23 @@ use mathlib.Core.Bool.{Bool, true, false}
 use mathlib.Core.Option.{none}
 use mathlib.Core.List.{List, []}
 use lib.ListN.{length, getD, take, drop}
+use lib.Dec.{T}
 use borrow.Rule.Slice.PartMut.{putMid}
 use Rattle.codec.specs.Plain.{if_then_else_, zeros}
-use Rattle.codec.specs.Code.{markOf}
+use Rattle.codec.specs.Code.{such, markOf}
 use Rattle.codec.proofs.Lawful.{such-under}
 use Rattle.codec.proofs.Many.{one-none}
 use Rattle.machine.specs.Codes.{threeRates}
 use Rattle.machine.specs.Message.{Rec, received}
 use Rattle.machine.specs.Channel.{opened, Open, withSending, sent, landed, sending, onSent, onOpen, doneWith, arrive}
 use Rattle.layout.specs.Record.{rec36, outgoing, outCell}
-use Rattle.layout.specs.Memory.{periodics, region}
+use Rattle.layout.specs.Memory.{region}
 use Rattle.layout.specs.Promise.{Opened, gives, callOutcome}
-use Rattle.layout.proofs.Memory.{rec-lawful, region-lawful}
+use Rattle.layout.proofs.Memory.{rec-lawful, out-lawful, region-lawful}
+use Rattle.layout.proofs.Sizes.{out-size}
 use Rattle.layout.proofs.Good.{Fine, fl, put-sending}
 use Rattle.layout.proofs.Region.{openOf, moves, stays, mark-of, loopback-part, flight-part, opened-again}
-use Rattle.receiving.proofs.Sent.{outgoing-put}
 use Rattle.receiving.specs.Queue.{arrived, Outgoing}
-use Rattle.sending.specs.Store.{written}
 use Rattle.sending.proofs.Flight.{none-put, good, none-flies, flies}
 
 -- a mark that is not 0 is on
@@ -34,31 +34,31 @@ mark-on : (b : Bool) → (markOf b ≡ 0 → ⊥) → b ≡ true
 mark-on true n = refl
 mark-on false n = absurd (n refl)
 
-module _ (r : List ℕ) (f : Opened r) where
+module _ {r : List ℕ} (f : Opened r) where
   abbrev o : Open
   o = openOf r
 
   module _ (t : ℕ) where
     pub sent-nothing : getD r 1307 0 ≡ 0 → gives 0x07 0 [] r ≡ callOutcome threeRates t r sent
     unfolding onOpen onSent sending
-    sent-nothing z = stays r f threeRates t sent 0x07 0 [] (ap (sending t o) (none-flies r f z))
+    sent-nothing z = stays r f threeRates t sent 0x07 0 [] (ap (sending t o) (none-flies f z))
 
     -- with the flight store empty
-    module _ (ys : List ℕ) (e : ys ≡ zeros (length (take 37 (drop 1307 r)))) (n : getD r 1307 0 ≡ 0 → ⊥) where
+    module _ {ys : List ℕ} (e : ys ≡ zeros (length (take 37 (drop 1307 r)))) (n : getD r 1307 0 ≡ 0 → ⊥) where
       landed-is : putMid 1307 37 r ys ≡ region .put (opened (landed o))
       unfolding withSending landed
-      landed-is = flight-part r f .becomes ys none (e ∙ ap (λ (k : ℕ). zeros k) (flight-part r f .long) ∙ sym (none-put (fl o)))
+      landed-is = flight-part r f .becomes _ none (e ∙ ap (λ (k : ℕ). zeros k) (flight-part r f .long) ∙ sym (none-put (fl o)))
 
       landed-fine : Fine (opened (landed o))
       unfolding withSending landed
-      landed-fine = put-sending o (good r f) (o .sending .periodics) (o .sending .written) none (good r f .periodics-ok) (good r f .written-ok) (one-none (outCell (fl o)))
+      landed-fine = put-sending o (good f) (o .sending .periodics) (o .sending .written) none (good f .periodics-ok) (good f .written-ok) (one-none (outCell (fl o)))
 
       abbrev x : Rec
-      x = flies r f n .one
+      x = flies f n .one
 
       sends : (b : Bool) → o .config .loopback ≡ b → onOpen threeRates t o sent ≡ doneWith (if b then arrive (landed o) (received t (x .tx + 1) (x .bytes)) else opened (landed o)) 0
       unfolding onOpen onSent sending
-      sends b h = ap (sending t o) (flies r f n .is) ∙ ap (λ (l : Bool). doneWith (if l then arrive (landed o) (received t (x .tx + 1) (x .bytes)) else opened (landed o)) 0) h
+      sends b h = ap (sending t o) (flies f n .is) ∙ ap (λ (l : Bool). doneWith (if l then arrive (landed o) (received t (x .tx + 1) (x .bytes)) else opened (landed o)) 0) h
 
       pub sent-quietly : getD r 9 0 ≡ 0 → gives 0 0 [] (putMid 1307 37 r ys) ≡ callOutcome threeRates t r sent
       unfolding doneWith
@@ -68,21 +68,24 @@ module _ (r : List ℕ) (f : Opened r) where
       pub landed-open : Opened (putMid 1307 37 r ys)
       landed-open = subst Opened (sym landed-is) (opened-again (landed o) landed-fine)
 
-      module _ (m : List ℕ) (c : m ≡ take 36 (drop 1308 r)) where
+      module _ {m : List ℕ} (c : m ≡ take 36 (drop 1308 r)) where
         shows : m ≡ rec36 .put x
-        shows = c ∙ flies r f n .shows
+        shows = c ∙ flies f n .shows
 
         pub outgoing-lent : Outgoing m
-        outgoing-lent = subst Outgoing (sym shows) (outgoing-put (fl o) x (flies r f n .held))
+        unfolding outCell such
+        outgoing-lent =
+            let l = out-lawful (fl o) in
+            record { flags = fl o; long = ap length shows ∙ l .long x (flies f n .held) ∙ out-size (fl o); valid = subst (λ (s : List ℕ). T (outCell (fl o) .valid s)) (sym shows) (l .valid-put x (flies f n .held)) }
 
         got : rec36 .get m ≡ x
         unfolding outCell
-        got = ap (rec36 .get) shows ∙ rec-lawful .get-put x (such-under rec36 (outgoing (fl o)) x (flies r f n .held))
+        got = ap (rec36 .get) shows ∙ rec-lawful .get-put x (such-under rec36 (outgoing (fl o)) x (flies f n .held))
 
-        pub sent-back : (after : List ℕ) → (getD r 9 0 ≡ 0 → ⊥)
+        pub sent-back : {after : List ℕ} → (getD r 9 0 ≡ 0 → ⊥)
             → after ≡ region .put (arrived (received t (rec36 .get m .tx + 1) (rec36 .get m .bytes)) (region .get (putMid 1307 37 r ys))) → gives 0 0 [] after ≡ callOutcome threeRates t r sent
         unfolding doneWith arrived
-        sent-back after z a =
+        sent-back {after} z a =
             let mid : region .get (putMid 1307 37 r ys) ≡ opened (landed o) = ap (region .get) landed-is ∙ region-lawful .get-put (opened (landed o)) landed-fine in
             moves r f threeRates t sent _ 0 0 [] after (sends true (mark-on (o .config .loopback) (λ h. z (mark-of (loopback-part r f) ∙ h))))
             (a ∙ (λ j. region .put (arrived (received t (got j .tx + 1) (got j .bytes)) (mid j))))

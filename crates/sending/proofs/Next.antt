@@ -1,4 +1,4 @@
--- What goes in flight next: where its bytes lie, what the machine chooses, and the region of an open channel when it is gone. Assumes nothing.
+-- What goes in flight next: where its bytes lie in the two stores; and the written store without its oldest record. Assumes nothing.
 use mathlib.Core.Path.{_≡_, refl, sym, ap, _∙_, subst}
 use Prim.Native.Nat.{ℕ, zero, suc, _+_, _*_, _-_, _≤_, _<_}
 use native.Mathlib.Nat.{not-suc-le-zero}
@@ -19,6 +19,7 @@ use Rattle.layout.specs.Memory.{periodics}
 use Rattle.layout.proofs.Memory.{out-lawful, shown-is}
 use Rattle.layout.proofs.Sizes.{out-size}
 use Rattle.periodics.proofs.Next.{waiting, next-pending, next-oldest}
+use Rattle.periodics.proofs.Next.{oldest as oldestOf}
 use Rattle.periodics.proofs.Held.{any-get, ten-held, message-at}
 use Rattle.sending.specs.Store.{written, WrittenPart}
 use Rattle.sending.specs.Flight.{nextShown, Choosing}
@@ -47,7 +48,7 @@ any-written j k m = any-records j k (getD m 0 0) (drop 1 m)
 
 -- ---- the bytes of the choice
 
-module _ (p w : List ℕ) (i : ℕ) (q : Choosing p w i) where
+module _ {p w : List ℕ} {i : ℕ} (q : Choosing p w i) where
   abbrev flags : ℕ
   flags = q .part .flags
 
@@ -74,25 +75,25 @@ module _ (p w : List ℕ) (i : ℕ) (q : Choosing p w i) where
   pub oldest-shown : 10 ≤ i → (k : ℕ) → take 36 (drop 1 w) ≡ nextShown (next (periodics k .get p) (written k .get w))
   unfolding nextShown outCell such
   oldest-shown h k =
-      let s = several ws (omega (arith, q .something h, holds-count flags w (q .store))) in
-      oldest-at (out-lawful flags) 16 36 (out-size flags) (s .oldest) (s .others) (holds-is flags w (q .store) ∙ ap (written flags .put) (s .are))
-      (subst (λ (x : List Rec). T (written flags .ok x)) (s .are) (holds-ok flags w (q .store)))
+      let s = several ws (omega (arith, q .something h, holds-count (q .store))) in
+      oldest-at (out-lawful flags) 16 36 (out-size flags) (s .oldest) (s .others) (holds-is (q .store) ∙ ap (written flags .put) (s .are))
+      (subst (λ (x : List Rec). T (written flags .ok x)) (s .are) (holds-ok (q .store)))
       ∙ sym (shown-is (s .oldest))
-      ∙ shown-any _ (next-oldest ps (ten-held p (q .part)) i (q .first) ws h ∙ ap (λ (x : List Rec). Rattle.periodics.proofs.Next.oldest ps x) (s .are)) k
+      ∙ shown-any _ (next-oldest ps (ten-held p (q .part)) i (q .first) ws h ∙ ap (oldestOf ps) (s .are)) k
 
   pub oldest-long : length (take 36 (drop 1 w)) ≡ 36
   oldest-long = length-take-le 36 (drop 1 w) (omega (arith, length-drop 1 w, q .store .long))
 
 -- ---- the written store without its oldest record
 
-module _ (store : List ℕ) (long : length store ≡ 577) (some-held : 0 < getD store 0 0) (ys : List ℕ)
+module _ (store : List ℕ) (long : length store ≡ 577) (some-held : 0 < getD store 0 0) {ys : List ℕ}
     (moved : ys ≡ drop 36 (take (1 + 36 * getD store 0 0 - 1) (drop 1 store)) ++ zeros 36) where
   pub without-oldest : (flags : ℕ) → T (written flags .valid store) → set (putMid 1 (1 + 36 * getD store 0 0 - 1) store ys) 0 (getD store 0 0 - 1) ≡ written flags .put (drop 1 (written flags .get store))
   without-oldest flags v =
       let w : WrittenPart flags store = record { long = long; valid = v } in
-      let n = holds-count flags store w in
+      let n = holds-count w in
       let s = several (written flags .get store) (omega arith) in
       let count : getD store 0 0 ≡ length (s .oldest ∷ s .others) = n ∙ ap length (s .are) in
-      oldest-gone (out-lawful flags) 16 36 (out-size flags) (s .oldest) (s .others) (1 + 36 * getD store 0 0 - 1) (getD store 0 0 - 1) (holds-is flags store w ∙ ap (written flags .put) (s .are))
-      (subst (λ (x : List Rec). T (written flags .ok x)) (s .are) (holds-ok flags store w)) (omega arith) moved (omega arith)
+      oldest-gone (out-lawful flags) 16 36 (out-size flags) (s .oldest) (s .others) (1 + 36 * getD store 0 0 - 1) (getD store 0 0 - 1) (holds-is w ∙ ap (written flags .put) (s .are))
+      (subst (λ (x : List Rec). T (written flags .ok x)) (s .are) (holds-ok w)) (omega arith) moved (omega arith)
       ∙ ap (λ (x : List Rec). written flags .put (drop 1 x)) (sym (s .are))

@@ -8,20 +8,18 @@ use lib.Seq.{take-all, drop-drop}
 use lib.Dec.{T}
 use borrow.Author.Tests.{ne-eqb, le-leb, lt-leb, lt-ltb, le-ltb}
 use borrow.Rule.Slice.PartMut.{putMid}
-use Rattle.codec.specs.Plain.{within, all, isByte}
+use Rattle.codec.specs.Plain.{all, isByte}
 use Rattle.codec.specs.Word.{wordAt}
 use Rattle.codec.specs.Code.{such}
 use Rattle.codec.proofs.Lists.{all-drop}
 use Rattle.codec.proofs.Many.{upTo-lawful}
 use Rattle.machine.specs.Codes.{codeOf, threeRates}
-use Rattle.machine.specs.Message.{Rec, sizeOf, messageCode, clean}
+use Rattle.machine.specs.Message.{Rec, messageCode, clean}
 use Rattle.machine.specs.Channel.{write, unless, shorter, Wrote, writeCode, unlessStopped, writing, onWrite, onOpen}
 use Rattle.layout.specs.Record.{rec36, outCell}
 use Rattle.layout.specs.Promise.{Opened, gives, callOutcome}
 use Rattle.layout.proofs.Memory.{out-lawful}
 use Rattle.layout.proofs.Sizes.{out-size, written-size}
-use Rattle.layout.proofs.Tables.{failed, yes}
-use Rattle.layout.proofs.Held.{within-low, within-high}
 use Rattle.layout.proofs.Calls.{clean-ok, writing-ok}
 use Rattle.layout.proofs.Good.{fl}
 use Rattle.layout.proofs.Region.{openOf, moves, stays, word-of, flags-part, written-part}
@@ -29,14 +27,6 @@ use Rattle.sending.specs.Store.{written, WrittenPart, queued, Stopped}
 use Rattle.sending.proofs.Store.{part-long, count-at, one-more}
 
 -- ---- one message
-
--- the size of a message that passed its checks
-pub good-size : (flags : ℕ) (m : List ℕ) → messageCode flags m ≡ 0 → (4 ≤ sizeOf m) × (sizeOf m ≤ 12)
-unfolding messageCode
-good-size flags m e =
-    let f = failed _ tt e in
-    let size : T (within 4 12 (sizeOf m)) = search yes in
-    (within-low 4 12 (sizeOf m) size, within-high 4 12 (sizeOf m) size)
 
 module _ (flags : ℕ) (held : List Rec) (m : List ℕ) where
   code-bad : (messageCode flags m ≡ 0 → ⊥) → writeCode flags held m ≡ messageCode flags m
@@ -59,7 +49,7 @@ module _ (flags : ℕ) (held : List Rec) (m : List ℕ) where
   unfolding queued
   one-queued e = rw e refl
 
-module _ (flags : ℕ) (store : List ℕ) (w : WrittenPart flags store) where
+module _ {flags : ℕ} {store : List ℕ} (w : WrittenPart flags store) where
   abbrev pub holds : List Rec
   holds = written flags .get store
 
@@ -75,6 +65,7 @@ module _ (flags : ℕ) (store : List ℕ) (w : WrittenPart flags store) where
   pub holds-count : getD store 0 0 ≡ length holds
   holds-count = count-at (out-lawful flags) 16 36 (out-size flags) holds holds-is
 
+  -- what one message leaves
   abbrev After : List ℕ → ℕ → List ℕ → Type 0
   After m code after = (code ≡ writeCode flags holds m) × (after ≡ written flags .put (queued flags holds m))
 
@@ -144,7 +135,7 @@ module _ (flags n i : ℕ) (b : List ℕ) (held : List Rec) where
   ended h = let z : n - i ≡ 0 = omega arith in ap (λ (k : ℕ). writing flags k (drop (36 * i) b) held i) z
 
 -- a store with the bytes of records that can be held
-module _ (flags : ℕ) (held : List Rec) (t : T (written flags .ok held)) (store : List ℕ) (e : store ≡ written flags .put held) where
+module _ (flags : ℕ) (held : List Rec) (t : T (written flags .ok held)) {store : List ℕ} (e : store ≡ written flags .put held) where
   pub part-again : WrittenPart flags store
   part-again =
       let l = upTo-lawful (out-lawful flags) 16 in
@@ -164,11 +155,16 @@ pub record Turn (flags n : ℕ) (b before store : List ℕ) (i : ℕ) : Type 0 w
   pub part : WrittenPart flags store
   pub same : writing flags n b (written flags .get before) 0 ≡ writing flags (n - i) (drop (36 * i) b) (written flags .get store) i
 
-pub no-turn : (flags n : ℕ) (b store : List ℕ) → WrittenPart flags store → Turn flags n b store store 0
-no-turn flags n b store w =
+pub no-turn : {flags : ℕ} {store : List ℕ} (n : ℕ) (b : List ℕ) → WrittenPart flags store → Turn flags n b store store 0
+no-turn {flags} {store} n b w =
     let e : n ≡ n - 0 = omega arith in record { some-left = omega arith; part = w; same = ap (λ (k : ℕ). writing flags k b (written flags .get store) 0) e }
 
-module _ (flags n : ℕ) (b before store : List ℕ) (i : ℕ) (u : Turn flags n b before store i) (h : i < n) (l : 36 * n ≤ length b) where
+-- a write that ends so
+ends : (flags : ℕ) {w : Wrote} {code count : ℕ} {held : List Rec} {store : List ℕ} → w ≡ record { held = held; count = count; code = code } → store ≡ written flags .put held → Stopped flags w code count store
+ends flags e s =
+    record { code-is = sym (ap (λ (x : Wrote). x .code) e); count-is = sym (ap (λ (x : Wrote). x .count) e); store-is = s ∙ ap (λ (x : Wrote). written flags .put (x .held)) (sym e) }
+
+module _ {flags n : ℕ} {b before store : List ℕ} {i : ℕ} (u : Turn flags n b before store i) (h : i < n) (l : 36 * n ≤ length b) where
   -- the message that is lent
   abbrev pub lent : List ℕ
   lent = take (length b - 36 * i) (drop (36 * i) b)
@@ -180,37 +176,33 @@ module _ (flags n : ℕ) (b before store : List ℕ) (i : ℕ) (u : Turn flags n
   lent-long = omega (arith, ap length lent-is, length-drop (36 * i) b)
 
   abbrev Done : ℕ → List ℕ → Type 0
-  Done code after = After flags store (u .part) lent code after
+  Done code after = After (u .part) lent code after
 
-  pub turn-stops : (code : ℕ) (after : List ℕ) → Done code after → (code ≡ 0 → ⊥) → Stopped flags (writing flags n b (written flags .get before) 0) code i after
-  turn-stops code after d z =
+  pub turn-stops : {code : ℕ} {after : List ℕ} → Done code after → (code ≡ 0 → ⊥) → Stopped flags (writing flags n b (written flags .get before) 0) code i after
+  turn-stops {code} {after} d z =
       let held : List Rec = written flags .get store in
       let c : code ≡ writeCode flags held (drop (36 * i) b) = d .0 ∙ ap (writeCode flags held) lent-is in
-      let w = u .same ∙ stopped flags n i b held code h c z in
-      let e : after ≡ written flags .put held = d .1 ∙ ap (written flags .put) (left-as-they-are flags held lent (λ y. z (d .0 ∙ y))) in
-      record { code-is = sym (ap (λ (x : Wrote). x .code) w); count-is = sym (ap (λ (x : Wrote). x .count) w); store-is = e ∙ ap (λ (x : Wrote). written flags .put (x .held)) (sym w) }
+      ends flags (u .same ∙ stopped flags n i b held code h c z) (d .1 ∙ ap (written flags .put) (left-as-they-are flags held lent (λ y. z (d .0 ∙ y))))
 
-  pub turn-more : (code : ℕ) (after : List ℕ) → Done code after → code ≡ 0 → T (all isByte b) → Turn flags n b before after (i + 1)
-  turn-more code after d z t =
+  pub turn-more : {code : ℕ} {after : List ℕ} → Done code after → code ≡ 0 → T (all isByte b) → Turn flags n b before after (i + 1)
+  turn-more {code} {after} d z t =
       let held : List Rec = written flags .get store in
       let m : List ℕ = drop (36 * i) b in
       let c : writeCode flags held m ≡ 0 = sym (d .0 ∙ ap (writeCode flags held) lent-is) ∙ z in
       let e : after ≡ written flags .put (held ++ clean m ∷ []) = d .1 ∙ ap (λ (x : List ℕ). written flags .put (queued flags held x)) lent-is ∙ ap (written flags .put) (one-queued flags held m c) in
-      let k = queued-ok flags held m c (omega (arith, length-drop (36 * i) b)) (all-drop isByte (36 * i) b t) (holds-ok flags store (u .part)) in
+      let k = queued-ok flags held m c (omega (arith, length-drop (36 * i) b)) (all-drop isByte (36 * i) b t) (holds-ok (u .part)) in
       record {
         some-left = omega arith;
-        part = part-again flags _ k after e;
-        same = u .same ∙ turned flags n i b held h c ∙ ap (λ (x : List Rec). writing flags (n - (i + 1)) (drop (36 * (i + 1)) b) x (i + 1)) (sym (holds-again flags _ k after e));
+        part = part-again flags _ k e;
+        same = u .same ∙ turned flags n i b held h c ∙ ap (λ (x : List Rec). writing flags (n - (i + 1)) (drop (36 * (i + 1)) b) x (i + 1)) (sym (holds-again flags _ k e));
       }
 
-pub turn-ends : (flags n : ℕ) (b before store : List ℕ) (i : ℕ) → Turn flags n b before store i → n ≤ i → Stopped flags (writing flags n b (written flags .get before) 0) 0 i store
-turn-ends flags n b before store i u h =
-    let w = u .same ∙ ended flags n i b (written flags .get store) h in
-    record { code-is = sym (ap (λ (x : Wrote). x .code) w); count-is = sym (ap (λ (x : Wrote). x .count) w); store-is = holds-is flags store (u .part) ∙ ap (λ (x : Wrote). written flags .put (x .held)) (sym w) }
+pub turn-ends : {flags n : ℕ} {b before store : List ℕ} {i : ℕ} → Turn flags n b before store i → n ≤ i → Stopped flags (writing flags n b (written flags .get before) 0) 0 i store
+turn-ends {flags} {n} {b} {store = store} {i} u h = ends flags (u .same ∙ ended flags n i b (written flags .get store) h) (holds-is (u .part))
 
 -- ---- on the region of an open channel
 
-module _ (r : List ℕ) (o : Opened r) (flags : ℕ) (e : flags ≡ wordAt 1 r) where
+module _ {r : List ℕ} (o : Opened r) {flags : ℕ} (e : flags ≡ wordAt 1 r) where
   pub flags-are : flags ≡ fl (openOf r)
   flags-are = e ∙ word-of (flags-part r o)
 
@@ -218,10 +210,10 @@ module _ (r : List ℕ) (o : Opened r) (flags : ℕ) (e : flags ≡ wordAt 1 r) 
   written-lent =
       subst (λ (k : ℕ). WrittenPart k (take 577 (drop 730 r))) (sym flags-are) (record { long = written-part r o .long; valid = written-part r o .valid })
 
-  pub write-done : (t n : ℕ) (b : List ℕ) (code count : ℕ) (ys : List ℕ) → 36 * n ≤ length b → Stopped flags (writing flags n b (written flags .get (take 577 (drop 730 r))) 0) code count ys
+  pub write-done : (t n : ℕ) (b : List ℕ) {code count : ℕ} {ys : List ℕ} → 36 * n ≤ length b → Stopped flags (writing flags n b (written flags .get (take 577 (drop 730 r))) 0) code count ys
       → gives code count [] (putMid 730 577 r ys) ≡ callOutcome threeRates t r (write n b)
   unfolding onOpen onWrite unless codeOf shorter
-  write-done t n b code count ys h s =
+  write-done t n b {code} {count} {ys} h s =
       let k : ℕ = fl (openOf r) in
       let w : Wrote = writing k n b (openOf r .sending .written) 0 in
       let d : Stopped k w code count ys =
@@ -230,6 +222,6 @@ module _ (r : List ℕ) (o : Opened r) (flags : ℕ) (e : flags ≡ wordAt 1 r) 
       ap₂ (λ (x y : ℕ). gives x y [] (putMid 730 577 r ys)) (d .code-is) (d .count-is)
       ∙ moves r o threeRates t (write n b) _ (w .code) (w .count) [] _ (rw (le-ltb (length b) (36 * n) h) refl) (written-part r o .becomes ys (w .held) (d .store-is))
 
-pub write-short : (r : List ℕ) (o : Opened r) (t n : ℕ) (b : List ℕ) → length b < 36 * n → gives 0x04 0 [] r ≡ callOutcome threeRates t r (write n b)
+pub write-short : {r : List ℕ} (o : Opened r) (t n : ℕ) (b : List ℕ) → length b < 36 * n → gives 0x04 0 [] r ≡ callOutcome threeRates t r (write n b)
 unfolding onOpen onWrite unless codeOf shorter
-write-short r o t n b h = stays r o threeRates t (write n b) 0x04 0 [] (rw (lt-ltb (length b) (36 * n) h) refl)
+write-short {r} o t n b h = stays r o threeRates t (write n b) 0x04 0 [] (rw (lt-ltb (length b) (36 * n) h) refl)

@@ -1,4 +1,4 @@
-// What is sent: written records, the choice of the next one, the one in flight, and its end.
+// What is sent: written records, the choice of the next one, and the one in flight.
 use codes::Answer;
 ghost use mathlib.Core.Path.{_≡_};
 ghost use mathlib.Core.List.{[], _∷_};
@@ -13,6 +13,27 @@ ghost use Rattle.layout.specs.Promise.{gives, Opened, callOutcome};
 ghost use Rattle.sending.specs.Store.{written, WrittenPart, queued, Stopped};
 ghost use Rattle.sending.specs.Flight.{nextShown, Choosing, freed};
 
+// Where the parts of a region begin: the loopback mark, the periodics, the written store (how many, 16 cells), the flight store (0 or 1, a cell).
+const LOOPBACK: usize = 9;
+
+const PERIODICS: usize = 280;
+
+const WRITTEN: usize = 730;
+
+const FLIGHT: usize = 1307;
+
+const FLYING: usize = 1308;
+
+const QUEUE: usize = 1344;
+// A cell's size, the most written records, the places for periodics, and where among the periodics their cells begin.
+const CELL: usize = 36;
+
+const MOST: u8 = 16;
+
+const PLACES: usize = 10;
+
+const CELLS: usize = 90;
+
 // One message behind those held, clean, where its checks find it good and fewer than 16 are held; its code.
 fn queue(store: &mut [u8], flags: u32, m: &[u8]) -> u32
     requires { ⌜ WrittenPart flags (now store) × (36 ≤ length (now m)) ⌝ }
@@ -23,11 +44,11 @@ fn queue(store: &mut [u8], flags: u32, m: &[u8]) -> u32
         return code;
     }
     let held = store[0];
-    if held >= 16 {
+    if held >= MOST {
         return codes::ERR_BUFFER_FULL;
     }
-    let at = 1 + 36 * held as usize;
-    let end = at + 36;
+    let at = 1 + CELL * held as usize;
+    let end = at + CELL;
     message::put_clean(&mut store[at..end], m);
     store[0] = held + 1;
     codes::STATUS_NOERROR
@@ -40,7 +61,7 @@ fn queue_all(store: &mut [u8], flags: u32, n: u32, buffer: &[u8]) -> Answer
 {
     let mut i = 0;
     while i < n {
-        let at = 36 * i as usize;
+        let at = CELL * i as usize;
         let code = queue(store, flags, &buffer[at..]);
         if code != codes::STATUS_NOERROR {
             return Answer { code, value: i };
@@ -58,14 +79,14 @@ pub fn write(r: &mut [u8], n: u32, buffer: &[u8]) -> Answer
     requires { ⌜ Opened (now r) ⌝ }
     ensures { λ a. ⌜ ((t : ℕ) → gives (a .code) (a .value) [] (now (r .exit)) ≡ callOutcome threeRates t (now (r .entry)) (writeOf n (now (buffer .entry)))) ⌝ }
 {
-    if buffer.len() < 36 * n as usize {
+    if buffer.len() < CELL * n as usize {
         return Answer {
             code: codes::ERR_NULL_PARAMETER,
             value: 0,
         };
     }
     let flags = octets::word_at(r, 1);
-    queue_all(&mut r[730..1307], flags, n, buffer)
+    queue_all(&mut r[WRITTEN..FLIGHT], flags, n, buffer)
 }
 
 // THE CHOICE of what is sent next: the 36 bytes of the first pending periodic, of place i, else those of the oldest written record.
@@ -73,9 +94,9 @@ fn choice<'a>(waiting: &'a [u8], store: &'a [u8], i: usize) -> &'a [u8]
     requires { ⌜ Choosing (now waiting) (now store) i ⌝ }
     ensures { λ b. ⌜ ((flags : ℕ) → now b ≡ nextShown (next (periodics flags .get (now (waiting .entry))) (written flags .get (now (store .entry))))) × (length (now b) ≡ 36) ⌝ }
 {
-    if i < 10 {
-        let at = 90 + i * 36;
-        let end = at + 36;
+    if i < PLACES {
+        let at = CELLS + i * CELL;
+        let end = at + CELL;
         return &waiting[at..end];
     }
     &store[1..37]
@@ -96,8 +117,8 @@ fn drop_oldest(store: &mut [u8])
     ensures { λ u. ⌜ ((flags : ℕ) → T (written flags .valid (now (store .entry))) → now (store .exit) ≡ written flags .put (drop 1 (written flags .get (now (store .entry))))) ⌝ }
 {
     let held = store[0];
-    let end = 1 + 36 * held as usize;
-    octets::move_down(&mut store[1..end], 36);
+    let end = 1 + CELL * held as usize;
+    octets::move_down(&mut store[1..end], CELL);
     store[0] = held - 1;
 }
 
@@ -106,11 +127,11 @@ fn free(r: &mut [u8], i: usize)
     requires { ⌜ Opened (now r) × (10 ≤ i → 0 < getD (now r) 730 0) ⌝ }
     ensures { λ u. ⌜ now (r .exit) ≡ region .put (freed i (region .get (now (r .entry)))) ⌝ }
 {
-    if i < 10 {
-        periodics::calm(&mut r[280..730], i);
+    if i < PLACES {
+        periodics::calm(&mut r[PERIODICS..WRITTEN], i);
         return;
     }
-    drop_oldest(&mut r[730..1307]);
+    drop_oldest(&mut r[WRITTEN..FLIGHT]);
 }
 
 // Take, where nothing is in flight: the chosen record goes in flight and to the buffer.
@@ -118,13 +139,16 @@ fn take_next(r: &mut [u8], buffer: &mut [u8]) -> u32
     requires { ⌜ Opened (now r) × (getD (now r) 1307 0 ≡ 0) × (36 ≤ length (now buffer)) ⌝ }
     ensures { λ c. ⌜ ((t : ℕ) → gives c 0 (now (buffer .exit)) (now (r .exit)) ≡ callOutcome threeRates t (now (r .entry)) (takeNext (now (buffer .entry)))) ⌝ }
 {
-    let i = periodics::first_pending(&r[280..730]);
-    if (i >= 10) & (r[730] == 0) {
+    let i = periodics::first_pending(&r[PERIODICS..WRITTEN]);
+    if (i >= PLACES) & (r[WRITTEN] == 0) {
         return codes::ERR_BUFFER_EMPTY;
     }
-    octets::copy(&mut buffer[0..36], choice(&r[280..730], &r[730..1307], i));
-    launch(&mut r[1307..1344], &buffer[0..36]);
+    octets::copy(
+        &mut buffer[0..CELL],
+        choice(&r[PERIODICS..WRITTEN], &r[WRITTEN..FLIGHT], i),
+    );
     free(r, i);
+    launch(&mut r[FLIGHT..QUEUE], &buffer[0..CELL]);
     codes::STATUS_NOERROR
 }
 
@@ -133,13 +157,13 @@ pub fn take(r: &mut [u8], buffer: &mut [u8]) -> u32
     requires { ⌜ Opened (now r) ⌝ }
     ensures { λ c. ⌜ ((t : ℕ) → gives c 0 (now (buffer .exit)) (now (r .exit)) ≡ callOutcome threeRates t (now (r .entry)) (takeNext (now (buffer .entry)))) ⌝ }
 {
-    if buffer.len() < 36 {
+    if buffer.len() < CELL {
         return codes::ERR_NULL_PARAMETER;
     }
-    if r[1307] == 0 {
+    if r[FLIGHT] == 0 {
         return take_next(r, buffer);
     }
-    octets::copy(&mut buffer[0..36], &r[1308..1344]);
+    octets::copy(&mut buffer[0..CELL], &r[FLYING..QUEUE]);
     codes::STATUS_NOERROR
 }
 
@@ -148,16 +172,16 @@ pub fn sent(r: &mut [u8], clock: u32) -> u32
     requires { ⌜ Opened (now r) ⌝ }
     ensures { λ c. ⌜ gives c 0 [] (now (r .exit)) ≡ callOutcome threeRates clock (now (r .entry)) sentOf ⌝ }
 {
-    if r[1307] == 0 {
+    if r[FLIGHT] == 0 {
         return codes::ERR_FAILED;
     }
-    if r[9] == 0 {
-        octets::zero(&mut r[1307..1344]);
+    if r[LOOPBACK] == 0 {
+        octets::zero(&mut r[FLIGHT..QUEUE]);
         return codes::STATUS_NOERROR;
     }
     let mut landed = [0u8; 36];
-    octets::copy(&mut landed, &r[1308..1344]);
-    octets::zero(&mut r[1307..1344]);
+    octets::copy(&mut landed, &r[FLYING..QUEUE]);
+    octets::zero(&mut r[FLIGHT..QUEUE]);
     receiving::echo(r, clock, &landed);
     codes::STATUS_NOERROR
 }

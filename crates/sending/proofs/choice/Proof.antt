@@ -5,16 +5,10 @@ use Rattle.sending.proofs.choice.Statement.{statement}
 use Rattle.sending.proofs.choice.Tie as tie
 
 returns : tie.Need-returns
-returns c =
-    let start = c .before .before in
-    let h = c .before .if1 .taken in
-    (pending-shown (start .args .waiting .now) (start .args .store .now) (start .args .i) (start .pre) h, pending-long (start .args .waiting .now) (start .args .store .now) (start .args .i) (start .pre) h)
+returns c = let q = c .before .before .pre in (pending-shown q (c .before .if1 .taken), pending-long q (c .before .if1 .taken))
 
 returns-2 : tie.Need-returns-2
-returns-2 c =
-    let start = c .before .before in
-    let h = c .before .if1 .left in
-    (oldest-shown (start .args .waiting .now) (start .args .store .now) (start .args .i) (start .pre) h, oldest-long (start .args .waiting .now) (start .args .store .now) (start .args .i) (start .pre))
+returns-2 c = let q = c .before .before .pre in (oldest-shown q (c .before .if1 .left), oldest-long q)
 
 pub choice-spec : {M : Type 1} → statement M
 choice-spec =

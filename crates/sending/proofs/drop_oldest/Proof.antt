@@ -5,7 +5,7 @@ use Rattle.sending.proofs.drop_oldest.Statement.{statement}
 use Rattle.sending.proofs.drop_oldest.Tie as tie
 
 returns : tie.Need-returns
-returns c = without-oldest (c .before .before .before .before .before .before .args .store .now) (c .before .before .before .before .before .before .pre .0) (c .before .before .before .before .before .before .pre .1) _ (c .before .before .move-down .ensures)
+returns c = let start = c .before .before .before .before .before .before in without-oldest (start .args .store .now) (start .pre .0) (start .pre .1) (c .before .before .move-down .ensures)
 
 pub drop-oldest-spec : {M : Type 1} → statement M
 drop-oldest-spec =

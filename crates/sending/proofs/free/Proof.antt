@@ -6,16 +6,16 @@ use Rattle.sending.proofs.free.Statement.{statement}
 use Rattle.sending.proofs.free.Tie as tie
 
 calm-requires : tie.Need-calm-requires
-calm-requires c κs = (lent (c .before .before .before .args .r .now) (c .before .before .before .pre .0), c .before .if1 .taken)
+calm-requires c κs = let start = c .before .before .before in (lent (start .args .r .now) (start .pre .0), c .before .if1 .taken)
 
 returns : tie.Need-returns
-returns c = periodic-freed (c .before .before .before .before .before .before .args .r .now) (c .before .before .before .before .before .before .pre .0) (c .before .before .before .before .before .before .args .i) _ (c .before .before .before .before .if1 .taken) (c .before .before .calm .ensures)
+returns c = let small = c .before .before .before .before in periodic-freed (small .before .before .pre .0) (small .if1 .taken) (c .before .before .calm .ensures)
 
 drop-oldest-requires : tie.Need-drop-oldest-requires
-drop-oldest-requires c κs = oldest-lent (c .before .before .before .args .r .now) (c .before .before .before .pre .0) (c .before .before .before .pre .1 (c .before .if1 .left))
+drop-oldest-requires c κs = let start = c .before .before .before in oldest-lent (start .pre .0) (start .pre .1 (c .before .if1 .left))
 
 returns-2 : tie.Need-returns-2
-returns-2 c = written-freed (c .before .before .before .before .before .before .args .r .now) (c .before .before .before .before .before .before .pre .0) (c .before .before .before .before .before .before .args .i) _ (c .before .before .before .before .if1 .left) (c .before .before .drop-oldest .ensures)
+returns-2 c = let large = c .before .before .before .before in written-freed (large .before .before .pre .0) (large .if1 .left) (c .before .before .drop-oldest .ensures)
 
 pub free-spec : {M : Type 1} → statement M
 free-spec =

@@ -5,22 +5,32 @@ use Rattle.sending.proofs.sent.Statement.{statement}
 use Rattle.sending.proofs.sent.Tie as tie
 
 returns : tie.Need-returns
-returns c = sent-nothing (c .before .before .before .args .r .now) (c .before .before .before .pre) (c .before .before .before .args .clock) (c .if1 .taken)
+returns c = let start = c .before .before .before in sent-nothing (start .pre) (start .args .clock) (c .if1 .taken)
 
 returns-2 : tie.Need-returns-2
-returns-2 c = let start = c .before .before .before .before .before .before .before .before .before in sent-quietly (start .args .r .now) (start .pre) (start .args .clock) _ (c .before .before .zero .ensures) (c .before .before .before .before .before .before .if1 .left) (c .before .before .before .before .if2 .taken)
+returns-2 c =
+    let quiet = c .before .before .before .before in
+    let flying = quiet .before .before in
+    let start = flying .before .before .before in
+    sent-quietly (start .pre) (start .args .clock) (c .before .before .zero .ensures) (flying .if1 .left) (quiet .if2 .taken)
 
 echo-requires : tie.Need-echo-requires
 echo-requires c κs =
-    let start = c .before .before .before .before .before .before .before .before .before .before .before .before .before .before .before .before in
-    let zeroed = c .before .before .before .before .zero2 .ensures in
-    let flew = c .before .before .before .before .before .before .before .before .before .before .before .before .before .if1 .left in
-    (landed-open (start .args .r .now) (start .pre) (start .args .clock) _ zeroed flew, outgoing-lent (start .args .r .now) (start .pre) (start .args .clock) _ zeroed flew _ (c .before .before .before .before .before .before .before .copy .ensures))
+    let zeroed = c .before .before .before .before in
+    let copied = zeroed .before .before .before in
+    let flying = copied .before .before .before .before .before .before in
+    let start = flying .before .before .before in
+    let gone = zeroed .zero2 .ensures in
+    (landed-open (start .pre) (start .args .clock) gone (flying .if1 .left), outgoing-lent (start .pre) (start .args .clock) gone (flying .if1 .left) (copied .copy .ensures))
 
 returns-3 : tie.Need-returns-3
 returns-3 c =
-    let start = c .before .before .before .before .before .before .before .before .before .before .before .before .before .before .before .before .before .before .before in
-    sent-back (start .args .r .now) (start .pre) (start .args .clock) _ (c .before .before .before .before .before .before .before .zero2 .ensures) (c .before .before .before .before .before .before .before .before .before .before .before .before .before .before .before .before .if1 .left) _ (c .before .before .before .before .before .before .before .before .before .before .copy .ensures) _ (c .before .before .before .before .before .before .before .before .before .before .before .before .before .before .if2 .left) (c .before .before .echo .ensures)
+    let zeroed = c .before .before .before .before .before .before .before in
+    let copied = zeroed .before .before .before in
+    let loud = copied .before .before .before .before in
+    let flying = loud .before .before in
+    let start = flying .before .before .before in
+    sent-back (start .pre) (start .args .clock) (zeroed .zero2 .ensures) (flying .if1 .left) (copied .copy .ensures) (loud .if2 .left) (c .before .before .echo .ensures)
 
 pub sent-spec : {M : Type 1} → statement M
 sent-spec =
