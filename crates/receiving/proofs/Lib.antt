@@ -1,3 +1,4 @@
+pub mod Store
 pub mod Bytes
 pub mod Laws
 pub mod Sent
