@@ -8,14 +8,14 @@ use mathlib.Core.List.{List, []}
 use lib.ListN.{length, getD, set, take, drop}
 use lib.Seq.{getD-take, getD-drop}
 use borrow.Rule.Slice.PartMut.{putMid}
-use Rattle.codec.specs.Plain.{within, zeros}
+use Rattle.codec.specs.Plain.{within}
 use Rattle.codec.specs.Word.{wordAt}
 use Rattle.codec.specs.Code.{byte, via, such, mark, both, many, beside, eachVia}
 use Rattle.codec.proofs.Tests.{true-T}
 use Rattle.machine.specs.Codes.{threeRates}
-use Rattle.machine.specs.Filter.{Slots, Filter, noneYet, free, taken, has}
+use Rattle.machine.specs.Filter.{Slots, Filter, free, taken, has}
 use Rattle.machine.proofs.Slots.{has-place, has-none}
-use Rattle.machine.specs.Channel.{filterCode, filterOf, startFilter, stopFilter, clear, says, Outcome, withFilters}
+use Rattle.machine.specs.Channel.{filterCode, filterOf, startFilter, stopFilter, says, Outcome, withFilters}
 use Rattle.layout.specs.Record.{row}
 use Rattle.layout.specs.Memory.{filterColumns, filters}
 use Rattle.layout.specs.Promise.{gives, Opened, callOutcome}
@@ -24,12 +24,7 @@ use Rattle.layout.proofs.Places.{fl}
 use Rattle.layout.proofs.Region.{openOf, word-of, stays, moves, flags-part, filters-part}
 use Rattle.filters.specs.Part.{FilterPart}
 use Rattle.filters.proofs.Held.{any-flags, ten-held, is-empty, is-taken}
-use Rattle.filters.proofs.Steps.{start-refused, start-done, stop-refused, stop-done, clear-done}
-
--- ten empty places are zeros
-cleared : (flags : ℕ) → zeros 270 ≡ filters flags .put noneYet
-unfolding filters eachVia beside filterColumns row many via such both mark byte noneYet
-cleared flags = refl
+use Rattle.filters.proofs.Steps.{start-refused, start-done, stop-refused, stop-done}
 
 -- the place of one of those numbers, counted from 0
 pub place-of : (n : ℕ) → within 1 10 n ≡ true → (1 ≤ n) × (n - 1 < 10)
@@ -95,7 +90,3 @@ module _ (r : List ℕ) (f : Opened r) where
             moves r f threeRates t (stopFilter number) _ 0 0 [] _
             (stop-done threeRates t (openOf r) number (held-here true (is-taken (take 270 (drop 10 r)) part-lent i (place-of number w .1) (λ e. n (here ∙ e)))))
             (filters-part r f .becomes ys (set (openOf r .filters) i none) (moved ys i none y))
-
-    pub all-cleared : (ys : List ℕ) → ys ≡ zeros 270 → gives 0 0 [] (putMid 10 270 r ys) ≡ callOutcome threeRates t r (clear 4)
-    all-cleared ys e =
-        moves r f threeRates t (clear 4) _ 0 0 [] _ (clear-done threeRates t (openOf r)) (filters-part r f .becomes ys noneYet (e ∙ cleared (fl (openOf r))))

@@ -1,4 +1,4 @@
--- What the machine does when a filter is started or stopped, and when all are cleared; and a start's checks as code makes them. Assumes nothing.
+-- What the machine does when a filter is started or stopped, and a start's checks as code makes them. Assumes nothing.
 use mathlib.Core.Path.{_≡_, refl, sym, ap, ap₂, _∙_}
 use Prim.Native.Nat.{ℕ, zero, suc, _+_, _-_, _/_, _%_, _≤_, _<_}
 use native.Mathlib.Omega.{arith}
@@ -12,8 +12,8 @@ use Rattle.codec.specs.Plain.{if_then_else_, within}
 use Rattle.codec.specs.Word.{wordAt}
 use Rattle.machine.specs.Codes.{codeOf}
 use Rattle.machine.specs.Message.{bit, protocolOf, sizeOf, txFlagsOf, wideOf, dataOf, twelve, takes}
-use Rattle.machine.specs.Filter.{noneYet, free, has}
-use Rattle.machine.specs.Channel.{Open, opened, withFilters, startFilter, stopFilter, clear, says, unless, doneWith, shorter, filterCode, filterOf, onStartFilter, onStopFilter, onClear, onOpen}
+use Rattle.machine.specs.Filter.{free, has}
+use Rattle.machine.specs.Channel.{Open, opened, withFilters, startFilter, stopFilter, says, unless, doneWith, shorter, filterCode, filterOf, onStartFilter, onStopFilter, onOpen}
 use Rattle.layout.specs.Memory.{typeOf, filterParts}
 use Rattle.layout.proofs.Tables.{failed, yes, neither}
 use Rattle.layout.proofs.Held.{within-low, within-high}
@@ -157,7 +157,3 @@ module _ (rates : List ℕ) (t : ℕ) (o : Open) where
     pub stop-done : has (o .filters) number ≡ true → onOpen rates t o (stopFilter number) ≡ (withFilters o (set (o .filters) (number - 1) none), says 0 0 [])
     unfolding onOpen onStopFilter unless doneWith codeOf
     stop-done e = rw e
-
-  pub clear-done : onOpen rates t o (clear 4) ≡ (withFilters o noneYet, says 0 0 [])
-  unfolding onOpen onClear doneWith
-  clear-done = refl

@@ -1,4 +1,4 @@
-// The filters of a channel: which frames they let in, and how one is started, stopped and all are cleared.
+// The filters of a channel: which frames they let in, and how one is started and stopped.
 ghost use mathlib.Core.Path.{_≡_};
 ghost use mathlib.Core.List.{[]};
 ghost use mathlib.Core.Option.{Option, some};
@@ -8,7 +8,7 @@ ghost use Rattle.codec.specs.Plain.{within};
 ghost use Rattle.machine.specs.Codes.{threeRates};
 ghost use Rattle.machine.specs.Message.{twelve};
 ghost use Rattle.machine.specs.Filter.{Filter, free, passes};
-ghost use Rattle.machine.specs.Channel.{Open, filterCode, filterOf, startFilter, stopFilter, clear};
+ghost use Rattle.machine.specs.Channel.{Open, filterCode, filterOf, startFilter, stopFilter};
 ghost use Rattle.layout.specs.Memory.{filterParts, filters};
 ghost use Rattle.layout.specs.Promise.{Opened, gives, callOutcome};
 ghost use Rattle.filters.specs.Part.{FilterPart, tenRows, filtersIn, Checked};
@@ -208,12 +208,4 @@ pub fn stop_filter(r: &mut [u8], number: u32) -> u32
     let none = [0u8; 12];
     put_place(&mut r[10..280], i, 0, false, 0, &none, &none);
     codes::STATUS_NOERROR
-}
-
-// Clear 4: no filter is left.
-pub fn clear_filters(r: &mut [u8])
-    requires { ⌜ Opened (now r) ⌝ }
-    ensures { λ u. ⌜ ((t : ℕ) → gives 0x00 0 [] (now (r .exit)) ≡ callOutcome threeRates t (now (r .entry)) (clear 4)) ⌝ }
-{
-    octets::zero(&mut r[10..280]);
 }

@@ -1,4 +1,4 @@
--- The region of an open channel when a record arrives, when records are read, and when the queue is cleared: its bytes, and the machine's answers.
+-- The region of an open channel when a record arrives and when records are read: its bytes, and the machine's answers.
 -- Assumes nothing.
 use mathlib.Core.Path.{_≡_, refl, sym, ap, ap₂, _∙_, subst}
 use Prim.Native.Nat.{ℕ, _+_, _*_, _-_, _≤_, _<_, min}
@@ -6,7 +6,7 @@ use native.Mathlib.Omega.{arith}
 use mathlib.Core.Bool.{Bool, true, false}
 use mathlib.Core.List.{List, [], _∷_, _++_}
 use lib.ListN.{length, getD, set, take, drop, length-drop}
-use lib.Seq.{drop-length, length-take-le}
+use lib.Seq.{length-take-le}
 use lib.Dec.{T, eqb}
 use borrow.Rule.Slice.PartMut.{putMid, midOf}
 use borrow.Author.Tests.{eq-eqb, ne-eqb, lt-ltb, le-ltb}
@@ -22,7 +22,7 @@ use Rattle.layout.specs.Promise.{Opened, gives, callOutcome}
 use Rattle.layout.proofs.Memory.{receiving-lawful}
 use Rattle.layout.proofs.Sizes.{receiving-size}
 use Rattle.layout.proofs.Region.{openOf, Part, is-open, moves, stays, receiving-part}
-use Rattle.receiving.specs.Queue.{arrived, emptied, withoutOldest}
+use Rattle.receiving.specs.Queue.{arrived, withoutOldest}
 use Rattle.receiving.proofs.Bytes.{few, count-is, lost-is, one-more, one-lost, oldest-out, oldest-gone}
 
 -- ---- a receiving part by itself
@@ -139,12 +139,3 @@ module _ (r : List ℕ) (f : Opened r) where
         (λ i. gives (c′ i) m (given i ++ drop (k′ i) b) (putMid 1344 1154 r ys))
         ∙ moves r f rates now (read n b) (withReceiving o (drop m xs) false) (readCode (o .receiving .lost) n m) m (shownAll (take m xs) ++ drop (36 * m) b) (putMid 1344 1154 r ys)
         (rw (le-ltb (length b) (36 * n) s) (rw (ne-eqb n 0 z) (rw (sym m′) refl))) (without m ys ey)
-
-  -- ---- clear
-
-  pub cleared : (m : ℕ) (ys : List ℕ) → m ≡ getD q 0 0 → ys ≡ receivingPart fl .put (withoutOldest m (receivingPart fl .get q)) → putMid 1344 1154 r ys ≡ region .put (emptied (region .get r))
-  unfolding emptied
-  cleared m ys e ey =
-      without m ys ey
-      ∙ ap (λ (x : List Rec). region .put (withReceiving o x false)) (ap (λ (k : ℕ). drop k xs) (e ∙ held) ∙ drop-length xs)
-      ∙ ap (λ (c : Chan). region .put (emptied c)) (sym (is-open r f))

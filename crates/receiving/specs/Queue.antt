@@ -14,11 +14,6 @@ unfoldable pub arrived : Rec → Chan → Chan
 arrived x closed = closed
 arrived x (opened o) = arrive o x
 
--- the channel with nothing to read and no lost mark; a closed one as it is
-unfoldable pub emptied : Chan → Chan
-emptied closed = closed
-emptied (opened o) = withReceiving o [] false
-
 -- what is left when the m oldest records are gone; the lost mark is cleared
 unfoldable pub withoutOldest : ℕ → Receiving → Receiving
 withoutOldest m x = record { queue = drop m (x .queue); lost = false }

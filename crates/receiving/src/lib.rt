@@ -1,4 +1,4 @@
-// What is received: a record more in the queue of an open channel, or the lost mark; reading; clearing.
+// What is received: a record more in the queue of an open channel, or the lost mark; reading.
 use codes::Answer;
 ghost use mathlib.Core.Path.{_≡_};
 ghost use mathlib.Core.List.{_++_};
@@ -12,7 +12,7 @@ ghost use Rattle.machine.specs.Channel.{read as readOf};
 ghost use Rattle.layout.specs.Record.{rec36};
 ghost use Rattle.layout.specs.Memory.{receivingPart, region};
 ghost use Rattle.layout.specs.Promise.{Opened, gives, callOutcome};
-ghost use Rattle.receiving.specs.Queue.{arrived, emptied, withoutOldest, Outgoing};
+ghost use Rattle.receiving.specs.Queue.{arrived, withoutOldest, Outgoing};
 
 // The receiving part of a region: the count, 32 cells of 36 bytes, the lost mark.
 const PART: usize = 1344;
@@ -123,14 +123,4 @@ pub fn read_in(r: &mut [u8], n: u32, buf: &mut [u8]) -> Answer
         code: code,
         value: m,
     }
-}
-
-// Clear, kind 2: no record to read, no lost mark.
-pub fn clear_queue(r: &mut [u8])
-    requires { ⌜ Opened (now r) ⌝ }
-    ensures { λ u. ⌜ now (r .exit) ≡ region .put (emptied (region .get (now (r .entry)))) ⌝ }
-{
-    let q = &mut r[PART..END];
-    let held = q[0] as usize;
-    drop_oldest(q, held);
 }
