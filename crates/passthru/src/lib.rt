@@ -1,0 +1,213 @@
+// The box as C calls it: numbers and byte slices only. A number that goes with a code is stored through a pointer, always: 0 where there is none.
+ghost use mathlib.Core.Path.{_≡_};
+ghost use mathlib.Core.List.{[]};
+ghost use Rattle.machine.specs.Codes.{threeRates};
+ghost use Rattle.machine.specs.Channel.{disconnect, clear, write, read, takeNext, sent, startFilter, stopFilter, startPeriodic, stopPeriodic, getParameter, setParameter};
+ghost use Rattle.machine.specs.Device.{call, connect, close, advance, frame};
+ghost use Rattle.layout.specs.Memory.{valid};
+ghost use Rattle.layout.specs.Promise.{gives, outcome, powerOnOutcome};
+ghost use Rattle.telegram.specs.Bits.{bitValue};
+ghost use Rattle.telegram.specs.Telegram.{timeOf};
+
+// A test as a number.
+fn bit(b: bool) -> u32
+    ensures { λ r. ⌜ r ≡ bitValue b ⌝ }
+{
+    if b { 1 } else { 0 }
+}
+
+// 1 where the bytes are a device memory, else 0.
+#[no_mangle]
+pub extern "C" fn trawl_valid(mem: &[u8]) -> u32
+    ensures { λ r. ⌜ r ≡ bitValue (valid (now (mem .entry))) ⌝ }
+{
+    bit(validity::valid(mem))
+}
+
+// Any bytes of the right size become the memory of a box just switched on.
+#[no_mangle]
+pub extern "C" fn trawl_power_on(mem: &mut [u8]) -> u32
+    ensures { λ c. ⌜ gives c 0 [] (now (mem .exit)) ≡ powerOnOutcome (now (mem .entry)) ⌝ }
+{
+    device::power_on(mem)
+}
+
+// Opens the channel of a line and gives its number.
+#[no_mangle]
+pub extern "C" fn trawl_connect(
+    mem: &mut [u8],
+    line: u32,
+    protocol: u32,
+    flags: u32,
+    rate: u32,
+    channel: &mut u32,
+) -> u32
+    ensures { λ c. ⌜ gives c (now (channel .exit)) [] (now (mem .exit)) ≡ outcome threeRates (now (mem .entry)) (connect line protocol flags rate) ⌝ }
+{
+    let answer = device::connect(mem, line, protocol, flags, rate);
+    *channel = answer.value;
+    answer.code
+}
+
+// Disconnects all; the clock runs on.
+#[no_mangle]
+pub extern "C" fn trawl_close(mem: &mut [u8]) -> u32
+    ensures { λ c. ⌜ gives c 0 [] (now (mem .exit)) ≡ outcome threeRates (now (mem .entry)) close ⌝ }
+{
+    device::close(mem)
+}
+
+// Time goes on, for the clock and every periodic.
+#[no_mangle]
+pub extern "C" fn trawl_advance(mem: &mut [u8], us: u32) -> u32
+    ensures { λ c. ⌜ gives c 0 [] (now (mem .exit)) ≡ outcome threeRates (now (mem .entry)) (advance us) ⌝ }
+{
+    device::advance(mem, us)
+}
+
+// A frame from a line, offered to the line's channel.
+#[no_mangle]
+pub extern "C" fn trawl_frame(mem: &mut [u8], line: u32, wide: u32, id: u32, bytes: &[u8]) -> u32
+    ensures { λ c. ⌜ gives c 0 [] (now (mem .exit)) ≡ outcome threeRates (now (mem .entry)) (frame line wide id (now (bytes .entry))) ⌝ }
+{
+    device::frame(mem, line, wide, id, bytes)
+}
+
+// Closes a channel.
+#[no_mangle]
+pub extern "C" fn trawl_disconnect(mem: &mut [u8], channel: u32) -> u32
+    ensures { λ c. ⌜ gives c 0 [] (now (mem .exit)) ≡ outcome threeRates (now (mem .entry)) (call channel disconnect) ⌝ }
+{
+    device::disconnect(mem, channel)
+}
+
+// A filter more; its number.
+#[no_mangle]
+pub extern "C" fn trawl_start_filter(
+    mem: &mut [u8],
+    channel: u32,
+    kind: u32,
+    mask: &[u8],
+    pattern: &[u8],
+    number: &mut u32,
+) -> u32
+    ensures { λ c. ⌜ gives c (now (number .exit)) [] (now (mem .exit)) ≡ outcome threeRates (now (mem .entry)) (call channel (startFilter kind (now (mask .entry)) (now (pattern .entry)))) ⌝ }
+{
+    let answer = device::start_filter(mem, channel, kind, mask, pattern);
+    *number = answer.value;
+    answer.code
+}
+
+// A filter less.
+#[no_mangle]
+pub extern "C" fn trawl_stop_filter(mem: &mut [u8], channel: u32, number: u32) -> u32
+    ensures { λ c. ⌜ gives c 0 [] (now (mem .exit)) ≡ outcome threeRates (now (mem .entry)) (call channel (stopFilter number)) ⌝ }
+{
+    device::stop_filter(mem, channel, number)
+}
+
+// A periodic more; its number.
+#[no_mangle]
+pub extern "C" fn trawl_start_periodic(
+    mem: &mut [u8],
+    channel: u32,
+    message: &[u8],
+    interval: u32,
+    number: &mut u32,
+) -> u32
+    ensures { λ c. ⌜ gives c (now (number .exit)) [] (now (mem .exit)) ≡ outcome threeRates (now (mem .entry)) (call channel (startPeriodic (now (message .entry)) interval)) ⌝ }
+{
+    let answer = device::start_periodic(mem, channel, message, interval);
+    *number = answer.value;
+    answer.code
+}
+
+// A periodic less.
+#[no_mangle]
+pub extern "C" fn trawl_stop_periodic(mem: &mut [u8], channel: u32, number: u32) -> u32
+    ensures { λ c. ⌜ gives c 0 [] (now (mem .exit)) ≡ outcome threeRates (now (mem .entry)) (call channel (stopPeriodic number)) ⌝ }
+{
+    device::stop_periodic(mem, channel, number)
+}
+
+// Queues records to send; how many.
+#[no_mangle]
+pub extern "C" fn trawl_write(
+    mem: &mut [u8],
+    channel: u32,
+    n: u32,
+    buffer: &[u8],
+    count: &mut u32,
+) -> u32
+    ensures { λ c. ⌜ gives c (now (count .exit)) [] (now (mem .exit)) ≡ outcome threeRates (now (mem .entry)) (call channel (write n (now (buffer .entry)))) ⌝ }
+{
+    let answer = device::write(mem, channel, n, buffer);
+    *count = answer.value;
+    answer.code
+}
+
+// Moves received records to a buffer; how many.
+#[no_mangle]
+pub extern "C" fn trawl_read(
+    mem: &mut [u8],
+    channel: u32,
+    n: u32,
+    buffer: &mut [u8],
+    count: &mut u32,
+) -> u32
+    ensures { λ c. ⌜ gives c (now (count .exit)) (now (buffer .exit)) (now (mem .exit)) ≡ outcome threeRates (now (mem .entry)) (call channel (read n (now (buffer .entry)))) ⌝ }
+{
+    let answer = device::read(mem, channel, n, buffer);
+    *count = answer.value;
+    answer.code
+}
+
+// The frame to send next, to a buffer; it stays in flight.
+#[no_mangle]
+pub extern "C" fn trawl_take(mem: &mut [u8], channel: u32, buffer: &mut [u8]) -> u32
+    ensures { λ c. ⌜ gives c 0 (now (buffer .exit)) (now (mem .exit)) ≡ outcome threeRates (now (mem .entry)) (call channel (takeNext (now (buffer .entry)))) ⌝ }
+{
+    device::take(mem, channel, buffer)
+}
+
+// The frame in flight is on the line.
+#[no_mangle]
+pub extern "C" fn trawl_sent(mem: &mut [u8], channel: u32) -> u32
+    ensures { λ c. ⌜ gives c 0 [] (now (mem .exit)) ≡ outcome threeRates (now (mem .entry)) (call channel sent) ⌝ }
+{
+    device::sent(mem, channel)
+}
+
+// Empties one kind of what a channel holds.
+#[no_mangle]
+pub extern "C" fn trawl_clear(mem: &mut [u8], channel: u32, kind: u32) -> u32
+    ensures { λ c. ⌜ gives c 0 [] (now (mem .exit)) ≡ outcome threeRates (now (mem .entry)) (call channel (clear kind)) ⌝ }
+{
+    device::clear(mem, channel, kind)
+}
+
+// A parameter's value.
+#[no_mangle]
+pub extern "C" fn trawl_get(mem: &[u8], channel: u32, parameter: u32, value: &mut u32) -> u32
+    ensures { λ c. ⌜ gives c (now (value .exit)) [] (now (mem .entry)) ≡ outcome threeRates (now (mem .entry)) (call channel (getParameter parameter)) ⌝ }
+{
+    let answer = device::get(mem, channel, parameter);
+    *value = answer.value;
+    answer.code
+}
+
+// A parameter's new value.
+#[no_mangle]
+pub extern "C" fn trawl_set(mem: &mut [u8], channel: u32, parameter: u32, value: u32) -> u32
+    ensures { λ c. ⌜ gives c 0 [] (now (mem .exit)) ≡ outcome threeRates (now (mem .entry)) (call channel (setParameter parameter value)) ⌝ }
+{
+    device::set(mem, channel, parameter, value)
+}
+
+// A time byte in units of 0.1 ms. T1 = 0xFF means no time-out: its entry, 63,000, is for whoever uses T1 to pass over.
+#[no_mangle]
+pub extern "C" fn trawl_time(byte: u8) -> u32
+    ensures { λ r. ⌜ r ≡ timeOf byte ⌝ }
+{
+    tp20::time(byte)
+}
