@@ -11,13 +11,16 @@
  * Everything else is checked: any bytes, any lengths, any numbers are answered with a code, and a refused call changes neither the memory
  * nor any buffer.
  *
- *     static uint8_t box[TRAWL_MEMORY];
- *     uint32_t channel, count;
- *     uint8_t record[TRAWL_RECORD];
+ *     static uint8_t box[TRAWL_MEMORY], record[TRAWL_RECORD];
+ *     static const uint8_t every[TRAWL_RECORD] = {CAN, 0, 0, 0, 0, 0, 0, 0, 0, 0, 0, 0, 0, 0, 0, 0, 4};
+ *     static const uint8_t data[3] = {0x02, 0x10, 0x03};
+ *     uint32_t channel, filter, count;
  *     trawl_power_on(box, sizeof box);
- *     if (trawl_connect(box, sizeof box, 0, CAN, 0, 500000, &channel) == STATUS_NOERROR)
- *         while (trawl_read(box, sizeof box, channel, 1, record, sizeof record, &count) == STATUS_NOERROR)
- *             use(record);
+ *     trawl_connect(box, sizeof box, 0, CAN, 0, 500000, &channel);
+ *     trawl_start_filter(box, sizeof box, channel, PASS_FILTER, every, sizeof every, every, sizeof every, &filter);
+ *     trawl_frame(box, sizeof box, 0, 0, 0x7E8, data, sizeof data);
+ *     if (trawl_read(box, sizeof box, channel, 1, record, sizeof record, &count) == STATUS_NOERROR)
+ *         printf("%u bytes from 0x%02X%02X\n", record[16], record[26], record[27]);
  */
 #ifndef TRAWLPEPPER_H
 #define TRAWLPEPPER_H

@@ -1,0 +1,232 @@
+/* The core against the twin in one run: nanoseconds a call, best of many, and the ratio. `bench [RUNS]`. Devices: idle (four channels, nothing
+ * else), typical (three filters, three records, two periodics and two written records a channel) and full. */
+#define _POSIX_C_SOURCE 199309L
+#include <stdio.h>
+#include <stdlib.h>
+#include <string.h>
+#include <time.h>
+
+#include "../../include/trawlpepper.h"
+#include "../twin/replay.h"
+#include "../twin/twin.h"
+
+enum { MEMORY = TRAWL_MEMORY, LONGEST = 32768, FOUR_LINES = 42600 };
+
+static uint8_t buffer[64 * 36], message[36], data8[8] = {3, 0x7F, 0x10, 0x78, 0, 0, 0, 0};
+static volatile uint32_t sink;
+
+static void keep(uint32_t v) { sink = v; }
+
+#define CALL(f) trawl_##f
+#define SIDE(f) core_##f
+#include "calls.h"
+#undef CALL
+#undef SIDE
+#define CALL(f) twin_##f
+#define SIDE(f) twin_run_##f
+#include "calls.h"
+#undef CALL
+#undef SIDE
+
+/* ---- devices ---- */
+
+static void word(uint8_t *p, uint32_t v) {
+    for (int i = 0; i < 4; i++) p[i] = (uint8_t)(v >> 8 * i);
+}
+
+static void record(uint8_t *p, uint32_t size, uint32_t identifier) {
+    memset(p, 0, 36);
+    word(p, 5), word(p + 16, size);
+    for (int i = 0; i < 4; i++) p[24 + i] = (uint8_t)(identifier >> (24 - 8 * i));
+}
+
+/* a channel's filters: the last one lets 0x7E8 in, the others are for other identifiers */
+static void device(uint8_t *m, uint32_t filters, uint32_t records, uint32_t periodics, uint32_t written) {
+    uint8_t mask[36], pattern[36];
+    uint32_t v;
+    record(mask, 4, 0xFFFFFFFF);
+    twin_power_on(m, MEMORY);
+    for (uint32_t line = 0; line < 4; line++) {
+        twin_connect(m, MEMORY, line, 5, 0, 500000, &v);
+        for (uint32_t i = 0; i < filters; i++) {
+            record(pattern, 4, i + 1 == filters ? 0x7E8 : 0x700 + i);
+            twin_start_filter(m, MEMORY, line + 1, 1, mask, 36, pattern, 36, &v);
+        }
+        for (uint32_t i = 0; i < records; i++) twin_frame(m, MEMORY, line, 0, 0x7E8, data8, 8);
+        for (uint32_t i = 0; i < periodics; i++) twin_start_periodic(m, MEMORY, line + 1, message, 36, 5 + i, &v);
+        for (uint32_t i = 0; i < written; i++) twin_write(m, MEMORY, line + 1, 1, message, 36, &v);
+    }
+}
+
+/* ---- time ---- */
+
+static double seconds(void) {
+    struct timespec t;
+    clock_gettime(CLOCK_MONOTONIC, &t);
+    return (double)t.tv_sec + 1e-9 * (double)t.tv_nsec;
+}
+
+typedef unsigned (*loop)(uint8_t *);
+static int runs = 60;
+
+static unsigned nothing(uint8_t *m) {
+    keep(m[0]);
+    return 1;
+}
+
+/* seconds for so many turns of a loop, the device put back before each */
+static double turns(loop f, uint8_t *m, const uint8_t *base, unsigned n, unsigned *calls) {
+    double from = seconds();
+    for (unsigned i = 0; i < n; i++) {
+        memcpy(m, base, MEMORY);
+        *calls = f(m);
+    }
+    return seconds() - from;
+}
+
+/* nanoseconds a call on each side, best of the runs, which take turns; what the putting back costs is taken off */
+static void measure(loop a, loop b, const uint8_t *base, double *ns_a, double *ns_b) {
+    static uint8_t m[MEMORY];
+    unsigned calls = 1, one = 1, n = 1;
+    double x = 1e9, y = 1e9, z = 1e9, t;
+    while (turns(b, m, base, n, &calls) < 2e-4) n *= 2;
+    for (int r = 0; r < runs; r++) {
+        if ((t = turns(a, m, base, n, &calls)) < x) x = t;
+        if ((t = turns(b, m, base, n, &calls)) < y) y = t;
+        if ((t = turns(nothing, m, base, n, &one)) < z) z = t;
+    }
+    *ns_a = 1e9 * (x - z) / n / calls, *ns_b = 1e9 * (y - z) / n / calls;
+}
+
+/* ---- the tables ---- */
+
+static const struct {
+    const char *name;
+    loop core, twin;
+} items[] = {
+    {"valid", core_valid, (loop)twin_run_valid},
+    {"frame, let in", core_frame_in, twin_run_frame_in},
+    {"frame, kept out", core_frame_out, twin_run_frame_out},
+    {"read of 1", core_read_one, twin_run_read_one},
+    {"read of 32", core_read_32, twin_run_read_32},
+    {"write of 1", core_write_one, twin_run_write_one},
+    {"take and sent", core_take_sent, twin_run_take_sent},
+    {"advance", core_advance, twin_run_advance},
+    {"start and stop a filter", core_filters, twin_run_filters},
+    {"start and stop a periodic", core_periodics, twin_run_periodics},
+    {"get and set", core_settings, twin_run_settings},
+    {"clear", core_clear, twin_run_clear},
+    {"connect and disconnect", core_connect, twin_run_connect},
+    {"close", core_close, twin_run_close},
+    {"mix of frames, reads, takes", core_mix, twin_run_mix},
+};
+
+static void calls(const char *name, const uint8_t *base) {
+    printf("\n%s device: ns a call       core     twin    ratio   (validating)\n", name);
+    for (size_t i = 0; i < sizeof items / sizeof *items; i++) {
+        double a, b;
+        measure(items[i].core, items[i].twin, base, &a, &b);
+        printf("  %-28s %8.1f %8.1f %8.2f", items[i].name, a, b, a / b);
+        if (i == 1) printf("   %.0f frames a second, %.0f times four lines", 1e9 / a, 1e9 / a / FOUR_LINES);
+        printf("\n");
+    }
+}
+
+static void growth(void) {
+    static uint8_t base[MEMORY];
+    double a, b;
+    printf("\nhow a frame's cost grows      core     twin    ratio\n");
+    for (uint32_t k = 0; k <= 31; k += k < 3 ? 3 : 7) {
+        device(base, 3, k, 0, 0);
+        measure(core_frame_out, twin_run_frame_out, base, &a, &b);
+        printf("  3 filters, %2u records       %8.1f %8.1f %8.2f\n", (unsigned)k, a, b, a / b);
+    }
+    for (uint32_t k = 1; k <= 10; k += 3) {
+        device(base, k, 3, 0, 0);
+        measure(core_frame_out, twin_run_frame_out, base, &a, &b);
+        printf("  %2u filters, 3 records       %8.1f %8.1f %8.2f\n", (unsigned)k, a, b, a / b);
+    }
+}
+
+/* ---- the inner calls, which trust a memory owned since power-on: recordings of one kind of event, replayed ---- */
+
+static uint8_t recording[LONGEST], core_out[TRAWL_REPLAY_ROOM(LONGEST)], twin_out[TRAWL_REPLAY_ROOM(LONGEST)];
+
+static uint8_t *put(uint8_t *p, uint32_t v) {
+    for (; v >= 0x80; v >>= 7) *p++ = (uint8_t)(v | 0x80);
+    *p++ = (uint8_t)v;
+    return p;
+}
+
+static uint8_t *some(uint8_t *p, const uint8_t *from, size_t n) {
+    memcpy(p, from, n);
+    return p + n;
+}
+
+static uint8_t *one_event(uint8_t *p, int kind, uint32_t i) {
+    uint32_t line = i & 3;
+    switch (kind) {
+    case 4: return put(put(p, 4), 1000);
+    case 5: return some(put(put(put(put(put(p, 5), line), 0), 0x7E8), 8), data8, 8);
+    case 10: return some(put(put(put(p, 10), line + 1), 1), message, 36);
+    case 11: return put(put(put(p, 11), line + 1), 1);
+    case 12: return put(put(p, 12), line + 1);
+    case 13: return put(put(p, 13), line + 1);
+    case 15: return put(put(put(p, 15), line + 1), 1);
+    case 16: return put(put(put(put(p, 16), line + 1), 3), i / 4 & 1);
+    default: return p;
+    }
+}
+
+static size_t make(const int *kinds, unsigned n, uint32_t filters, unsigned *events) {
+    uint8_t *p = recording, mask[36], pattern[36];
+    record(mask, 4, 0xFFFFFFFF);
+    for (uint32_t line = 0; line < 4; line++) {
+        p = put(put(put(put(put(p, 1), line), 5), 0), 500000);
+        for (uint32_t i = 0; i < filters; i++) {
+            record(pattern, 4, i + 1 == filters ? 0x7E8 : 0x700 + i);
+            p = some(some(put(put(put(p, 6), line + 1), 1), mask, 36), pattern, 36);
+        }
+    }
+    *events = 4 + 4 * filters;
+    for (uint32_t i = 0; p + 64 < recording + LONGEST; i++, ++*events) p = one_event(p, kinds[i / 4 % n], i);
+    return (size_t)(p - recording);
+}
+
+static void inner(const char *name, const int *kinds, unsigned n, uint32_t filters) {
+    unsigned events;
+    size_t size = make(kinds, n, filters, &events);
+    double x = 1e9, y = 1e9, t;
+    uint32_t a, b;
+    for (int r = 0; r < runs; r++) {
+        t = seconds();
+        trawl_replay(recording, size, core_out, sizeof core_out, &a);
+        if ((t = seconds() - t) < x) x = t;
+        t = seconds();
+        twin_replay(recording, size, twin_out, sizeof twin_out, &b);
+        if ((t = seconds() - t) < y) y = t;
+    }
+    if (a != b || memcmp(core_out, twin_out, a)) {
+        fprintf(stderr, "bench: the two replays of '%s' differ\n", name);
+        exit(1);
+    }
+    printf("  %-28s %8.1f %8.1f %8.2f   %.1f million events a second\n", name, 1e9 * x / events, 1e9 * y / events, x / y, 1e-6 * events / x);
+}
+
+int main(int argc, char **argv) {
+    static uint8_t idle[MEMORY], typical[MEMORY], full[MEMORY];
+    static const int frames[] = {5, 5, 5, 11, 11, 11}, advances[] = {4}, sends[] = {10, 12, 13}, gets[] = {15, 16}, mixed[] = {5, 5, 11, 12, 4, 5, 11, 13};
+    if (argc > 1) runs = atoi(argv[1]) > 0 ? atoi(argv[1]) : runs;
+    record(message, 8, 0x7E0);
+    device(idle, 0, 0, 0, 0), device(typical, 3, 3, 2, 2), device(full, 10, 32, 10, 16);
+    calls("idle", idle), calls("typical", typical), calls("full", full);
+    growth();
+    printf("\nreplayed, inner calls: ns an event  core   twin    ratio\n");
+    inner("frames and reads, 3 filters", frames, 6, 3);
+    inner("frames and reads, 10 filters", frames, 6, 10);
+    inner("advance", advances, 1, 0);
+    inner("write, take, sent", sends, 3, 0);
+    inner("get and set", gets, 2, 0);
+    inner("mix", mixed, 8, 3);
+    return 0;
+}

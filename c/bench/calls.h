@@ -1,0 +1,109 @@
+/* The timed loops, for one side: included once with CALL and SIDE for the core and once for the twin. Each plays a few calls from a device and
+ * then puts the device back, and gives how many calls it made. */
+
+static unsigned SIDE(valid)(uint8_t *m) {
+    unsigned good = 0;
+    for (int i = 0; i < 16; i++) good += CALL(valid)(m, MEMORY) != 0;
+    keep(good);
+    return 16;
+}
+
+static unsigned SIDE(frame_in)(uint8_t *m) {
+    for (uint32_t i = 0; i < 16; i++) keep(CALL(frame)(m, MEMORY, i & 3, 0, 0x7E8, data8, 8));
+    return 16;
+}
+
+static unsigned SIDE(frame_out)(uint8_t *m) {
+    for (uint32_t i = 0; i < 16; i++) keep(CALL(frame)(m, MEMORY, i & 3, 0, 0x123, data8, 8));
+    return 16;
+}
+
+static unsigned SIDE(read_one)(uint8_t *m) {
+    uint32_t v;
+    for (uint32_t i = 0; i < 12; i++) keep(CALL(read)(m, MEMORY, 1 + (i & 3), 1, buffer, sizeof buffer, &v) + v);
+    return 12;
+}
+
+static unsigned SIDE(read_32)(uint8_t *m) {
+    uint32_t v;
+    for (uint32_t i = 0; i < 4; i++) keep(CALL(read)(m, MEMORY, 1 + i, 32, buffer, sizeof buffer, &v) + v);
+    return 4;
+}
+
+static unsigned SIDE(write_one)(uint8_t *m) {
+    uint32_t v;
+    for (uint32_t i = 0; i < 16; i++) keep(CALL(write)(m, MEMORY, 1 + (i & 3), 1, message, sizeof message, &v) + v);
+    return 16;
+}
+
+static unsigned SIDE(take_sent)(uint8_t *m) {
+    for (uint32_t i = 0; i < 16; i++) {
+        keep(CALL(take)(m, MEMORY, 1 + (i & 3), buffer, sizeof buffer));
+        keep(CALL(sent)(m, MEMORY, 1 + (i & 3)));
+    }
+    return 32;
+}
+
+static unsigned SIDE(advance)(uint8_t *m) {
+    for (uint32_t i = 0; i < 16; i++) keep(CALL(advance)(m, MEMORY, 1000));
+    return 16;
+}
+
+static unsigned SIDE(filters)(uint8_t *m) {
+    uint32_t v;
+    for (uint32_t i = 0; i < 8; i++) {
+        keep(CALL(stop_filter)(m, MEMORY, 1 + (i & 3), 1));
+        keep(CALL(start_filter)(m, MEMORY, 1 + (i & 3), 1, message, sizeof message, message, sizeof message, &v) + v);
+    }
+    return 16;
+}
+
+static unsigned SIDE(periodics)(uint8_t *m) {
+    uint32_t v;
+    for (uint32_t i = 0; i < 8; i++) {
+        keep(CALL(stop_periodic)(m, MEMORY, 1 + (i & 3), 1));
+        keep(CALL(start_periodic)(m, MEMORY, 1 + (i & 3), message, sizeof message, 10, &v) + v);
+    }
+    return 16;
+}
+
+static unsigned SIDE(settings)(uint8_t *m) {
+    uint32_t v;
+    for (uint32_t i = 0; i < 8; i++) {
+        keep(CALL(get)(m, MEMORY, 1 + (i & 3), 1, &v) + v);
+        keep(CALL(set)(m, MEMORY, 1 + (i & 3), 3, i & 1));
+    }
+    return 16;
+}
+
+static unsigned SIDE(clear)(uint8_t *m) {
+    for (uint32_t i = 0; i < 16; i++) keep(CALL(clear)(m, MEMORY, 1 + (i & 3), 1 + i / 4));
+    return 16;
+}
+
+static unsigned SIDE(connect)(uint8_t *m) {
+    uint32_t v;
+    for (uint32_t i = 0; i < 4; i++) {
+        keep(CALL(disconnect)(m, MEMORY, 1 + i));
+        keep(CALL(connect)(m, MEMORY, i, 5, 0, 500000, &v) + v);
+    }
+    return 8;
+}
+
+static unsigned SIDE(close)(uint8_t *m) {
+    keep(CALL(close)(m, MEMORY));
+    return 1;
+}
+
+/* what a busy box does: frames on all lines, reads, now and then a frame to send */
+static unsigned SIDE(mix)(uint8_t *m) {
+    uint32_t v;
+    for (uint32_t i = 0; i < 8; i++) {
+        keep(CALL(frame)(m, MEMORY, i & 3, 0, 0x7E8, data8, 8));
+        keep(CALL(frame)(m, MEMORY, (i + 1) & 3, 0, 0x123, data8, 8));
+        keep(CALL(read)(m, MEMORY, 1 + (i & 3), 4, buffer, sizeof buffer, &v) + v);
+        keep(CALL(take)(m, MEMORY, 1 + (i & 3), buffer, sizeof buffer));
+        keep(CALL(advance)(m, MEMORY, 500));
+    }
+    return 40;
+}
