@@ -1,12 +1,12 @@
 -- What validity is of ten filters in columns, filter by filter, as code finds it out. Assumes nothing.
 use mathlib.Core.Path.{_≡_, refl, sym, ap, _∙_}
-use Prim.Native.Nat.{ℕ, zero, suc, _+_, _*_, _<_}
+use Prim.Native.Nat.{ℕ, _+_, _*_, _<_}
 use native.Mathlib.Omega.{arith}
 use mathlib.Core.Bool.{Bool, true, false, _&&_, not}
 use mathlib.Core.List.{List, []}
 use lib.ListN.{length, getD, take, drop}
 use lib.Seq.{drop-drop}
-use lib.Dec.{eqb, leb, eqb·suc-zero}
+use lib.Dec.{eqb, leb}
 use borrow.Author.Tests.{eq-eqb, ne-eqb, lt-leb}
 use Rattle.codec.specs.Plain.{if_then_else_, within, allZero, allBelow}
 use Rattle.codec.specs.Code.{byte, via, such, mark, many}
@@ -63,10 +63,6 @@ module _ (flags : ℕ) (m : List ℕ) (h : length m ≡ 270) (t : Bytes m) where
 
 -- ---- one filter, as code finds it out: what follows its size in mask and pattern is zeros
 
-ends-empty : (n : ℕ) (w : Bool) (a b : List ℕ) → (w && eqb n 0 && allZero (drop n a) && allZero (drop n b)) ≡ (w && eqb n 0 && allZero a && allZero b)
-ends-empty zero w a b = refl
-ends-empty (suc n) w a b = rw (eqb·suc-zero n) (rw (and-false w))
-
 module _ (flags i : ℕ) (m : List ℕ) where
   abbrev n : ℕ
   n = getD m (20 + i) 0
@@ -92,11 +88,10 @@ module _ (flags i : ℕ) (m : List ℕ) where
       go true = rw no (rw (and-false (not (eqb 1 width))) (and-false (leb width 1)))
       go false = rw (lt-leb n 12 h) (rw (and-false (leb 1 n)) (rw (and-false (leb (getD m i 0) 2 && takes flags (eqb 1 width))) (and-false (leb width 1))))
 
-  pub filter-empty : getD m i 0 ≡ 0 → (leb width 1 && (not (eqb 1 width) && eqb n 0 && allZero (drop n mask) && allZero (drop n pattern))) ≡ filterGood flags i m
+  pub filter-empty : getD m i 0 ≡ 0 → (leb width 1 && (not (eqb 1 width) && eqb n 0 && allZero mask && allZero pattern)) ≡ filterGood flags i m
   unfolding filterGood filterFits filterAt
   filter-empty e =
-      ap (λ (b : Bool). leb width 1 && b) (ends-empty n (not (eqb 1 width)) mask pattern)
-      ∙ ap (λ (b : Bool). leb width 1 && (if b then not (eqb 1 width) && eqb n 0 && allZero mask && allZero pattern
+      ap (λ (b : Bool). leb width 1 && (if b then not (eqb 1 width) && eqb n 0 && allZero mask && allZero pattern
       else leb (getD m i 0) 2 && takes flags (eqb 1 width) && within 1 12 n && allZero (drop n mask) && allZero (drop n pattern))) (sym (eq-eqb (getD m i 0) 0 e))
 
   pub filter-set : (getD m i 0 ≡ 0 → ⊥)

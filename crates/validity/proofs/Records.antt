@@ -48,6 +48,14 @@ id-take k x h =
     let g : (n : ℕ) → n < 4 → getD (take k x) n 0 ≡ getD x n 0 = λ n b. getD-take k x n 0 (omega arith) in
     λ i. 16777216 * g 0 (omega arith) i + 65536 * g 1 (omega arith) i + 256 * g 2 (omega arith) i + g 3 (omega arith) i
 
+-- three tests, the last two in either order
+last-two : (a b c : Bool) → (a && b && c) ≡ (a && c && b)
+last-two false b c = refl
+last-two true true true = refl
+last-two true true false = refl
+last-two true false true = refl
+last-two true false false = refl
+
 module _ (m : List ℕ) (h : length m ≡ 36) (t : Bytes m) where
   four-words : drop 4 (drop 4 (drop 4 (drop 4 m))) ≡ drop 16 m
   four-words = ap (λ (x : List ℕ). drop 4 (drop 4 x)) (drop-drop 4 4 m) ∙ ap (λ (x : List ℕ). drop 4 x) (drop-drop 4 8 m) ∙ drop-drop 4 12 m
@@ -99,7 +107,7 @@ module _ (m : List ℕ) (h : length m ≡ 36) (t : Bytes m) where
 
   -- a size in range: after the identifier, zeros from the size on
   pub rec-good : 4 ≤ wordAt 16 m → wordAt 16 m ≤ 12
-      → (eqb (wordAt 20 m) (wordAt 16 m) && allZero (drop (wordAt 16 m - 4) (take 8 (drop 28 m))) && eqb (wordAt 0 m) 5) ≡ rec36 .valid m
+      → (eqb (wordAt 20 m) (wordAt 16 m) && eqb (wordAt 0 m) 5 && allZero (drop (wordAt 16 m - 4) (take 8 (drop 28 m)))) ≡ rec36 .valid m
   unfolding dataFits within
   rec-good a b =
       let n : ℕ = wordAt 16 m in
@@ -107,7 +115,8 @@ module _ (m : List ℕ) (h : length m ≡ 36) (t : Bytes m) where
       let s : 24 + n ≡ 28 + (n - 4) = omega arith in
       let z : drop n (drop 24 m) ≡ drop (n - 4) (take 8 (drop 28 m)) =
       drop-drop n 24 m ∙ ap (λ (k : ℕ). drop k m) s ∙ sym (drop-drop (n - 4) 28 m) ∙ ap (λ (x : List ℕ). drop (n - 4) x) (sym (rest-part 28 8 m h)) in
-      sym (rec-flat ∙ ap₂ (λ (x : Bool) (y : List ℕ). (x && eqb (wordAt 20 m) n && allZero y) && eqb (wordAt 0 m) 5) yes z)
+      last-two (eqb (wordAt 20 m) n) (eqb (wordAt 0 m) 5) (allZero (drop (n - 4) (take 8 (drop 28 m))))
+      ∙ sym (rec-flat ∙ ap₂ (λ (x : Bool) (y : List ℕ). (x && eqb (wordAt 20 m) n && allZero y) && eqb (wordAt 0 m) 5) yes z)
 
   -- a valid record has four bytes of identifier, and its protocol is 5
   rec-four : T (rec36 .valid m) → 4 ≤ wordAt 16 m

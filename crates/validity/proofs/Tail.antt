@@ -1,7 +1,7 @@
 -- Bytes as one number, lowest first: they are zeros from the k-th on exactly where the number fits k bytes. Assumes nothing.
 use mathlib.Core.Path.{_≡_, refl, sym, ap, ap₂, _∙_}
 use Prim.Native.Nat.{ℕ, zero, suc, _+_, _*_, _-_, _/_, _^_, _≤_, _<_, min}
-use native.Mathlib.Nat.{div-one, zero-div}
+use native.Mathlib.Nat.{div-one, zero-div, div-eq-of-lt}
 use native.Mathlib.Numerals.{add-one}
 use native.Mathlib.Omega.{arith}
 use mathlib.Core.Bool.{Bool, true, false, _&&_}
@@ -45,9 +45,11 @@ tail-value (suc k) [] t = ap (λ (n : ℕ). eqb n 0) (zero-div (2 ^ (8 * suc k))
 tail-value (suc k) (x ∷ b) t =
     ap (λ (n : ℕ). eqb n 0) (digit-less x (value b) k (ltb→lt x 256 (left (isByte x) (all isByte b) t))) ∙ tail-value k b (right (isByte x) (all isByte b) t)
 
--- as code finds it out: two shifts of half the bits
-pub shifted : (x k : ℕ) → eqb (x / 2 ^ (4 * k) / 2 ^ (4 * k)) 0 ≡ eqb (x / 2 ^ (8 * k)) 0
-shifted x k = let e : 4 * k + 4 * k ≡ 8 * k = omega arith in ap (λ (n : ℕ). eqb n 0) (shr-shr x (4 * k) (4 * k) ∙ ap (λ (n : ℕ). x / 2 ^ n) e)
+-- as code finds it out: every number of 64 bits fits eight bytes
+pub whole : (x k : ℕ) → 7 < k → k ≤ 8 → x < 0x1_0000_0000_0000_0000 → true ≡ eqb (x / 2 ^ (8 * k)) 0
+whole x k more most h =
+    let e : k ≡ 8 = omega arith in
+    sym (ap (λ (j : ℕ). eqb (x / 2 ^ (8 * j)) 0) e ∙ eq-eqb (x / 0x1_0000_0000_0000_0000) 0 (div-eq-of-lt h))
 
 -- ---- the number of four and of eight bytes at a place
 

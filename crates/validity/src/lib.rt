@@ -24,8 +24,10 @@ fn fits_bytes(x: u64, k: usize) -> bool
     requires { ⌜ k ≤ 8 ⌝ }
     ensures { λ r. ⌜ r ≡ eqb (x / 2 ^ (8 * k)) 0 ⌝ }
 {
-    let half = 4 * k;
-    (x >> half) >> half == 0
+    if k > 7 {
+        return true;
+    }
+    x >> (8 * k) == 0
 }
 
 // The smaller of two numbers.
@@ -68,7 +70,7 @@ fn plain_record(s: &[u8]) -> bool
         return false;
     }
     let data = size as usize - 4;
-    (word_at(s, 20) == size) & eight_end(s, 28, data) & (word_at(s, 0) == 5)
+    (word_at(s, 20) == size) & (word_at(s, 0) == 5) & eight_end(s, 28, data)
 }
 
 // Is a record's identifier in the range of its width, and does the connection take that width?
@@ -141,16 +143,21 @@ fn filter(s: &[u8], i: usize, flags: u32) -> bool
 {
     let width = s[10 + i];
     let n = s[20 + i] as usize;
+    let mask = 30 + i * 12;
+    let pattern = 150 + i * 12;
+    if s[i] == 0 {
+        return (width <= 1)
+            & (!(1 == width) & (n == 0) & twelve_end(s, mask, 0) & twelve_end(s, pattern, 0));
+    }
     if n > 12 {
         return false;
     }
-    let mask = twelve_end(s, 30 + i * 12, n);
-    let pattern = twelve_end(s, 150 + i * 12, n);
-    if s[i] == 0 {
-        return (width <= 1) & (!(1 == width) & (n == 0) & mask & pattern);
-    }
     (width <= 1)
-        & ((s[i] <= 2) & takes_width(flags, 1 == width) & ((1 <= n) & (n <= 12)) & mask & pattern)
+        & ((s[i] <= 2)
+            & takes_width(flags, 1 == width)
+            & ((1 <= n) & (n <= 12))
+            & twelve_end(s, mask, n)
+            & twelve_end(s, pattern, n))
 }
 
 // Periodic i of ten: record, interval, time since the last due time, pending mark; or nothing at all.

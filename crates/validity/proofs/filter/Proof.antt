@@ -1,4 +1,4 @@
--- `validity::filter` meets its contract: a size over 12, an empty place, a filter. Assumes nothing.
+-- `validity::filter` meets its contract: an empty place, a size over 12, a filter. Assumes nothing.
 use Rattle.validity.proofs.Filters.{filter-over, filter-empty, filter-set}
 use lib.ListN.{getD}
 use lib.Dec.{eqb, leb}
@@ -15,24 +15,23 @@ cast-n : tie.Need-cast-n
 cast-n c = omega (arith, c .shared-slice-known3 .given (20 + c .before .before .before .args .i))
 
 returns : tie.Need-returns
-returns c = let start = c .before .before .before .before in filter-over (start .args .flags) (start .args .i) (start .args .s .now) (c .if1 .taken)
-
-returns-2 : tie.Need-returns-2
-returns-2 c = let masked = c .before .before .before in
-    let start = masked .before .before .before .before .before in
+returns c = let start = c .before .before .before .before .before .before .before in
     let s : List ℕ = start .args .s .now in
     let i : ℕ = start .args .i in
-    (λ j. leb (getD s (10 + i) 0) 1 && (not (eqb 1 (getD s (10 + i) 0)) && eqb (getD s (20 + i) 0) 0 && masked .twelve-end .ensures j && c .before .before .twelve-end2 .ensures j))
-    ∙ filter-empty (start .args .flags) i s (c .if2 .taken)
+    (λ j. leb (getD s (10 + i) 0) 1 && (not (eqb 1 (getD s (10 + i) 0)) && eqb (getD s (20 + i) 0) 0 && c .before .twelve-end .ensures j && c .twelve-end2 .ensures j))
+    ∙ filter-empty (start .args .flags) i s (c .before .before .if1 .taken)
+
+returns-2 : tie.Need-returns-2
+returns-2 c = let start = c .before .before .before .before .before .before in filter-over (start .args .flags) (start .args .i) (start .args .s .now) (c .if2 .taken)
 
 returns-3 : tie.Need-returns-3
-returns-3 c = let masked = c .before .before .before .before .before in
-    let start = masked .before .before .before .before .before in
+returns-3 c = let set = c .before .before .before .before .before in
+    let start = set .before .before .before .before .before in
     let s : List ℕ = start .args .s .now in
     let i : ℕ = start .args .i in
     let n : ℕ = getD s (20 + i) 0 in
-    (λ j. leb (getD s (10 + i) 0) 1 && (leb (getD s i 0) 2 && c .takes-width .ensures j && (leb 1 n && leb n 12) && masked .twelve-end .ensures j && c .before .before .before .before .twelve-end2 .ensures j))
-    ∙ filter-set (start .args .flags) i s (c .before .before .if2 .left)
+    (λ j. leb (getD s (10 + i) 0) 1 && (leb (getD s i 0) 2 && c .before .before .takes-width .ensures j && (leb 1 n && leb n 12) && c .before .twelve-end3 .ensures j && c .twelve-end4 .ensures j))
+    ∙ filter-set (start .args .flags) i s (set .if1 .left)
 
 pub filter-spec : {M : Type 1} → statement M
 filter-spec =
@@ -43,15 +42,17 @@ filter-spec =
     (λ c. search needs)
     (λ c. search needs)
     cast-n
+    (λ c. search needs)
+    (λ c. search needs)
+    (λ c. search needs)
+    (λ c. search needs)
+    (λ c. search needs)
+    (λ c κs. search needs)
+    (λ c κs. search needs)
     returns
-    (λ c. search needs)
-    (λ c. search needs)
-    (λ c κs. search needs)
-    (λ c. search needs)
-    (λ c. search needs)
-    (λ c κs. search needs)
-    (λ c. search needs)
     returns-2
     (λ c. search needs)
+    (λ c κs. search needs)
+    (λ c κs. search needs)
     (λ c κs. search needs)
     returns-3)

@@ -27,7 +27,7 @@ returns-3 c = let first = c .before .before .before .before .before in
     let start = first .before .before in
     let s : List ℕ = start .args .s .now in
     let w = first .word-at .ensures in
-    (λ j. eqb (c .before .before .word-at2 .ensures .0 j) (w .0 j) && (c .before .eight-end .ensures ∙ ap (λ (n : ℕ). allZero (drop (n - 4) (take 8 (drop 28 s)))) (w .0)) j && eqb (c .word-at3 .ensures .0 j) 5)
+    (λ j. eqb (c .before .before .word-at2 .ensures .0 j) (w .0 j) && eqb (c .before .word-at3 .ensures .0 j) 5 && (c .eight-end .ensures ∙ ap (λ (n : ℕ). allZero (drop (n - 4) (take 8 (drop 28 s)))) (w .0)) j)
     ∙ rec-good s (start .pre) (w .1) (omega arith) (omega arith)
 
 pub plain-record-spec : {M : Type 1} → statement M
