@@ -22,7 +22,7 @@ use Rattle.events.specs.declared.Plain.the-variants as plain
 use Rattle.events.specs.declared.Giving.{Giving}
 use Rattle.events.specs.declared.Giving.the-variants as giving
 use Rattle.events.specs.Found.{plainOf, givingOf}
-use Rattle.recording.specs.Output.{onDone, afterCall, afterCode, answerBytes}
+use Rattle.recording.specs.Output.{onDone, afterCall, afterCode, answerBytes, numbered, counted}
 use Rattle.recording.specs.Step.{Put, Answered}
 use Rattle.recording.proofs.Room.{small-number, small-code}
 use Rattle.recording.proofs.Lent.{Gives, Counted, OneOrNone, reads, takes}
@@ -64,20 +64,12 @@ plain-bytes s (plain.Sent c) a = append-nil _
 plain-bytes s (plain.Clear c k) a = append-nil _
 plain-bytes s (plain.Set c p v) a = append-nil _
 
--- the code, and a number on 0x00
-abbrev pub numbered : ℕ → ℕ → List ℕ
-numbered c v = bytesOf c ++ onDone c (bytesOf v)
-
 pub giving-bytes : (s : List ℕ) (e : Giving) (a : Answer) → answerBytes (givingOf s e) a ≡ numbered (a .code) (a .value)
 unfolding answerBytes afterCode afterCall
 giving-bytes s (giving.Connect l p f r) a = refl
 giving-bytes s (giving.StartFilter c t m p e) a = refl
 giving-bytes s (giving.StartPeriodic c f e i) a = refl
 giving-bytes s (giving.Get c p) a = refl
-
--- the code and the count
-abbrev pub counted : ℕ → ℕ → List ℕ
-counted c v = bytesOf c ++ bytesOf v
 
 pub write-bytes : (k n : ℕ) (b : List ℕ) (a : Answer) → answerBytes (call k (write n b)) a ≡ counted (a .code) (a .value)
 unfolding answerBytes afterCode afterCall
@@ -193,3 +185,36 @@ module _ (m : List ℕ) (ok : T (valid m)) (k : ℕ) (out : List ℕ) (at : ℕ)
         let same : at + 1 + 0 ≡ at + 1 = omega arith in
         subst (λ (j : ℕ). Answered (call k (takeNext (zeros 36))) m out at j m′ (set (putMid (at + 1) 36 out b′) at c)) same
         (took 0 none (sym (rw (small, i) (ap (λ (l : List ℕ). c ∷ l) (sym empty)))))
+
+-- ---- the same, where the part that was lent has this size in other words
+
+pub record ReadInto (m out : List ℕ) (k n at size c v : ℕ) (b′ m′ : List ℕ) : Type 0 where
+  pub code : c < 128
+  pub count : v ≤ 64
+  pub answered : Answered (call k (read n (zeros (36 * n)))) m out at (at + 2 + 36 * v) m′ (set (set (putMid (at + 2) size out b′) (at + 1) v) at c)
+
+pub record TakenInto (m out : List ℕ) (k at size c : ℕ) (b′ m′ : List ℕ) : Type 0 where
+  pub code : c < 128
+  pub done : c ≡ 0 → Answered (call k (takeNext (zeros 36))) m out at (at + 1 + 36) m′ (set (putMid (at + 1) size out b′) at c)
+  pub refused : (c ≡ 0 → ⊥) → Answered (call k (takeNext (zeros 36))) m out at (at + 1) m′ (set (putMid (at + 1) size out b′) at c)
+
+module _ (m out : List ℕ) (ok : T (valid m)) (k at : ℕ) (room : at + 2306 ≤ length out) where
+  pub read-into : (n size : ℕ) {c v : ℕ} (b′ : List ℕ) {m′ : List ℕ} → 36 * n ≡ size → n ≤ 64 → gives c v b′ m′ ≡ outcome threeRates m (call k (read n (midOf (at + 2) size out))) → length b′ ≡ size
+      → ReadInto m out k n at size c v b′ m′
+  read-into n size {c} {v} b′ {m′} e most =
+      subst (λ (j : ℕ). gives c v b′ m′ ≡ outcome threeRates m (call k (read n (midOf (at + 2) j out))) → length b′ ≡ j → ReadInto m out k n at j c v b′ m′) e
+      (λ h kept. record {
+        code = told-small m ok (call k (read n (midOf (at + 2) (36 * n) out))) h;
+        count = read-count m ok k out at n c v b′ m′ h most (omega arith) kept;
+        answered = read-answered m ok k out at n c v b′ m′ h most (omega arith) kept;
+      })
+
+  pub taken-into : (size : ℕ) {c : ℕ} (b′ : List ℕ) {m′ : List ℕ} → 36 ≡ size → gives c 0 b′ m′ ≡ outcome threeRates m (call k (takeNext (midOf (at + 1) size out))) → length b′ ≡ size
+      → TakenInto m out k at size c b′ m′
+  taken-into size {c} b′ {m′} e =
+      subst (λ (j : ℕ). gives c 0 b′ m′ ≡ outcome threeRates m (call k (takeNext (midOf (at + 1) j out))) → length b′ ≡ j → TakenInto m out k at j c b′ m′) e
+      (λ h kept. record {
+        code = told-small m ok (call k (takeNext (midOf (at + 1) 36 out))) h;
+        done = take-done m ok k out at c b′ m′ h (omega arith) kept;
+        refused = take-refused m ok k out at c b′ m′ h (omega arith) kept;
+      })

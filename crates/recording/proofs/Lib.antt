@@ -4,3 +4,4 @@ pub mod Lent
 pub mod Writing
 pub mod Answers
 pub mod Playing
+pub mod Whole

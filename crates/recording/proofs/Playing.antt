@@ -8,7 +8,7 @@ use native.Mathlib.Omega.{arith}
 use borrow.Author.Tests.{le-leb, lt-leb}
 use lib.Dec.{T, leb, ltb}
 use lib.ListN.{length, take, drop, length-append}
-use Rattle.codec.specs.Plain.{if_then_else_, all, isByte}
+use Rattle.codec.specs.Plain.{if_then_else_, all, isByte, zeros}
 use Rattle.codec.proofs.Lists.{all-take, all-drop}
 use Rattle.machine.specs.Codes.{threeRates}
 use Rattle.machine.specs.Device.{Device, powerOn, step}
@@ -18,7 +18,8 @@ use Rattle.machine.proofs.Dispatch.{channels-kept}
 use Rattle.layout.specs.Memory.{image, load, valid}
 use Rattle.layout.specs.Reach.{Bytes}
 use Rattle.layout.proofs.Memory.{load-image, ok-load, valid-image}
-use Rattle.layout.proofs.Entry.{four}
+use Rattle.layout.proofs.Entry.{length-valid, four}
+use Rattle.layout.proofs.Sizes.{power-on-zeros}
 use Rattle.layout.proofs.Reach.{step-ok, power-on-ok}
 use Rattle.number.specs.Number.{bytesOf}
 use Rattle.number.specs.Place.{Written}
@@ -30,7 +31,9 @@ use Rattle.events.specs.declared.Giving.the-variants as giving
 use Rattle.events.specs.declared.Event.{Event}
 use Rattle.events.specs.declared.Event.the-variants as event
 use Rattle.events.specs.Events.{readEvent}
-use Rattle.events.specs.Found.{between, plainOf, givingOf, eventOf}
+use Rattle.events.specs.declared.Found.{Found}
+use Rattle.events.specs.declared.Found.the-variants as found
+use Rattle.events.specs.Found.{between, plainOf, givingOf, eventOf, foundOf, EventThere, FoundThere, ReadsAs}
 use Rattle.events.proofs.Ending.{least, event-ends}
 use Rattle.recording.specs.Output.{answerBytes}
 use Rattle.recording.specs.Step.{Put, Answered}
@@ -67,6 +70,23 @@ module _ (s : List ℕ) (t : T (all isByte s)) where
   event-lends (event.Write c n f e) = part-bytes f e
   event-lends (event.Read c n) = tt
   event-lends (event.Take c) = tt
+
+-- ---- what the reader's answer says
+
+module _ (s : List ℕ) (at : ℕ) (r : Found) (a : ReadsAs s (readEvent s at) r) where
+  pub read-bad : r ≡ found.Bad → readEvent s at ≡ none
+  read-bad q = sym (a .is) ∙ ap (λ (x : Found). foundOf s x) q
+
+  module _ {e : Event} {next : ℕ} (q : r ≡ found.Good e next) where
+    pub read-good : readEvent s at ≡ some (eventOf s e, next)
+    read-good = sym (a .is) ∙ ap (λ (x : Found). foundOf s x) q
+
+    pub good-there : EventThere s e
+    good-there = subst (λ (x : Found). FoundThere s x) q (a .there)
+
+    -- each turn of a replay takes it on
+    pub nearer : at < length s → length s - next < length s - at
+    nearer h = let n = event-ends s at (eventOf s e) next read-good in omega (arith, one-at-least (eventOf s e))
 
 -- ---- the answers from a place on
 
@@ -113,16 +133,24 @@ begun s out m e =
       room = rw l (omega arith);
     }
 
+-- a memory of zeros is a box just switched on
+pub from-zeros : (s out m : List ℕ) → m ≡ zeros 9996 → Playing s out m out 0 0
+from-zeros s out m e = begun s out m (e ∙ sym power-on-zeros)
+
+-- the memory keeps its length
+pub same-memory : {s out₀ m out : List ℕ} {at place : ℕ} (m₀ : List ℕ) → Playing s out₀ m out at place → m₀ ≡ zeros 9996 → length m ≡ length m₀
+same-memory {s} {out₀} {m} m₀ p e = length-valid m (p .ok) ∙ sym (length-valid m₀ (from-zeros s out₀ m₀ e .ok))
+
 module _ {s out₀ m out : List ℕ} {at place : ℕ} (p : Playing s out₀ m out at place) (big : 19 * length s + 2306 ≤ length out₀) where
   fits : 0 + length (p .bytes) ≤ length out₀
   fits = omega (arith, p .room, p .inside, p .written .ends)
 
-  pub same-length : length out ≡ length out₀
-  same-length = put-length (p .written) fits
+  pub same-output : length out ≡ length out₀
+  same-output = put-length (p .written) fits
 
   -- there is room for any answer
   pub room-left : place + 2306 ≤ length out
-  room-left = omega (arith, p .room, p .inside, same-length)
+  room-left = omega (arith, p .room, p .inside, same-output)
 
   -- the end of the recording
   pub ended : length s ≤ at → Put out₀ 0 (played (length s) powerOn s 0) place out

@@ -6,9 +6,12 @@ use native.Mathlib.Numerals.{add-one}
 use native.Mathlib.Omega.{arith}
 use lib.ListN.{length, take, drop, set, length-append, length-take, length-drop, take-append-drop}
 use lib.Seq.{length-take-le, take-at, drop-at, take-append-le, take-take, drop-drop, drop-append-le, set-split}
+use borrow.Author.Tests.{eq-eqb, ne-eqb}
 use borrow.Rule.Slice.PartMut.{putMid, midOf}
 use Rattle.number.specs.Number.{bytesOf}
 use Rattle.number.specs.Place.{Written}
+use Rattle.number.proofs.Laws.{written-short}
+use Rattle.recording.specs.Output.{onDone, numbered, counted}
 use Rattle.recording.specs.Step.{Put}
 
 -- a number
@@ -82,3 +85,33 @@ put-lent b ys xs at size n room few long e =
     rest =
         sym (drop-append-le n (take size (drop at b)) (drop size (drop at b)) (omega (arith, length-take size (drop at b), length-drop at b)))
         ∙ ap (drop n) (take-append-drop size (drop at b)) ∙ drop-drop n at b ∙ ap (λ (k : ℕ). drop (at + k) b) (sym long)
+
+-- ---- two numbers
+
+-- a number takes five bytes at most
+pub number-fits : (b : List ℕ) (at v : ℕ) → at + 5 ≤ length b → at + length (bytesOf v) ≤ length b
+number-fits b at v room = omega (arith, written-short v .1)
+
+module _ {b after : List ℕ} {at code n : ℕ} (w : Written b at code n after) (room : at + 10 ≤ length b) where
+  first : Put b at (bytesOf code) n after
+  first = put-number b after at code n w
+
+  first-fits : at + length (bytesOf code) ≤ length b
+  first-fits = number-fits b at code (omega arith)
+
+  -- there is room for the second
+  pub second-fits : (v : ℕ) → n + length (bytesOf v) ≤ length after
+  second-fits v = number-fits after n v (omega (arith, put-length first first-fits, first .ends, written-short code .1))
+
+  -- a code and a count
+  pub put-counted : {later : List ℕ} {m : ℕ} (v : ℕ) → Written after n v m later → Put b at (counted code v) m later
+  put-counted {later} {m} v x = put-then first first-fits (put-number after later n v m x)
+
+  -- a code and, where it is 0, a number
+  pub put-done : {later : List ℕ} {m : ℕ} (v : ℕ) → code ≡ 0 → Written after n v m later → Put b at (numbered code v) m later
+  unfolding onDone
+  put-done v e x = rw (eq-eqb code 0 e) (put-counted v x)
+
+  pub put-refused : (v : ℕ) → (code ≡ 0 → ⊥) → Put b at (numbered code v) n after
+  unfolding onDone
+  put-refused v e = rw (ne-eqb code 0 e, append-nil (bytesOf code)) first

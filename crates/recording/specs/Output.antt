@@ -39,3 +39,13 @@ afterCode close a = []
 -- AN ANSWER is its code, and then those
 unfoldable pub answerBytes : Event → Answer → List ℕ
 answerBytes e a = bytesOf (a .code) ++ afterCode e a
+
+-- ---- the same in code and number, for the functions below the replay
+
+-- the code, and a number on 0x00
+abbrev pub numbered : ℕ → ℕ → List ℕ
+numbered c v = bytesOf c ++ onDone c (bytesOf v)
+
+-- the code and the count
+abbrev pub counted : ℕ → ℕ → List ℕ
+counted c v = bytesOf c ++ bytesOf v
