@@ -3,7 +3,7 @@ use Prim.Native.Nat.{_-_}
 use native.Mathlib.Omega.{arith}
 use lib.ListN.{length}
 use Rattle.codec.proofs.Lists.{bytes-of}
-use Rattle.recording.proofs.Writing.{number-fits}
+use Rattle.number.proofs.Laws.{written-short}
 use Rattle.recording.proofs.Playing.{Playing, event-lends, read-bad, read-good, good-there, nearer, from-zeros, same-memory, same-output, room-left, ended, stopped, goes-on}
 use borrow.Author.Needs.{needs}
 use Rattle.recording.proofs.play_all.Statement.{statement}
@@ -19,7 +19,8 @@ loop-holds : tie.Need-loop-holds Inv-loop μ-loop
 loop-holds c = from-zeros (c .before .before .before .args .recording .now) (c .before .before .before .args .out .now) (c .before .before .before .args .mem .now) (c .before .before .before .pre .0)
 
 put-number-requires : tie.Need-put-number-requires Inv-loop μ-loop
-put-number-requires c κs = let r = room-left (c .before .before .before .before .before .loop .inv) (c .before .before .before .before .before .before .before .before .before .pre .1) in number-fits (c .before .before .before .before .before .loop .out) (c .before .before .before .before .before .loop .place) 255 (omega arith)
+put-number-requires c κs =
+    let r = room-left (c .before .before .before .before .before .loop .inv) (c .before .before .before .before .before .before .before .before .before .pre .1) in omega (arith, written-short 255 .1, c .before .before .before .before .before .loop .inv .inside, same-output (c .before .before .before .before .before .loop .inv) (c .before .before .before .before .before .before .before .before .before .pre .1))
 
 same-length : tie.Need-same-length Inv-loop μ-loop
 same-length c = same-memory (c .before .before .before .before .before .before .before .before .before .before .before .before .args .mem .now) (c .before .before .before .before .before .before .before .before .loop .inv) (c .before .before .before .before .before .before .before .before .before .before .before .before .pre .0)

@@ -10,7 +10,7 @@ put-number-requires : tie.Need-put-number-requires
 put-number-requires c κs = number-fits (now (c .before .before .args .out)) (c .before .before .args .at) (c .before .before .args .code) (omega arith)
 
 put-number-requires-2 : tie.Need-put-number-requires-2
-put-number-requires-2 c κs = second-fits (c .before .before .before .put-number .ensures) (c .before .before .before .before .before .before .pre) (c .before .before .before .before .before .before .args .count)
+put-number-requires-2 c κs = second-fits (c .before .before .before .put-number .ensures) (c .before .before .before .before .before .before .pre) _
 
 returns : tie.Need-returns
 returns c = put-counted (c .before .before .before .before .before .before .put-number .ensures) (c .before .before .before .before .before .before .before .before .before .pre) (c .before .before .before .before .before .before .before .before .before .args .count) (c .before .before .put-number2 .ensures)
