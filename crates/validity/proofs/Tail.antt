@@ -102,3 +102,26 @@ twelve-end n at m h =
     ap (λ (r : List ℕ). allZero (drop (min n 8) (take 8 (drop at m))) && allZero (drop (n - min n 8) (take 4 r))) (sym (drop-drop 8 at m))
     ∙ split-end n (take 8 (drop at m)) (take 4 (drop 8 (drop at m))) (length-take-le 8 (drop at m) (omega (arith, length-drop at m)))
     ∙ ap (λ (r : List ℕ). allZero (drop n r)) (sym (take-add 8 4 (drop at m)))
+
+-- ---- 36 bytes as four times eight and four
+
+joined : (a b at next : ℕ) (m : List ℕ) → next ≡ at + a → (allZero (take a (drop at m)) && allZero (take b (drop next m))) ≡ allZero (take (a + b) (drop at m))
+joined a b at next m e =
+    ap (λ (r : List ℕ). allZero (take a (drop at m)) && allZero (take b r)) (ap (λ (k : ℕ). drop k m) e ∙ sym (drop-drop a at m))
+    ∙ sym (all-split (eqb 0) (take a (drop at m)) (take b (drop a (drop at m))))
+    ∙ ap (λ (r : List ℕ). allZero r) (sym (take-add a b (drop at m)))
+
+pub no-record : (m : List ℕ) → T (all isByte m) → (at : ℕ) → at + 36 ≤ length m
+    → (allZero (take 8 (drop at m)) && allZero (take 8 (drop (at + 8) m)) && allZero (take 8 (drop (at + 16) m)) && allZero (take 8 (drop (at + 24) m)) && eqb (wordAt (at + 32) m) 0) ≡ allZero (take 36 (drop at m))
+no-record m t at h =
+    let last : eqb (wordAt (at + 32) m) 0 ≡ allZero (take 4 (drop (at + 32) m)) =
+    ap (λ (n : ℕ). eqb n 0) (sym (div-one (wordAt (at + 32) m))) ∙ four-end m t (at + 32) 0 (omega arith) in
+    (λ j. joined 8 8 at (at + 8) m refl j && allZero (take 8 (drop (at + 16) m)) && allZero (take 8 (drop (at + 24) m)) && last j)
+    ∙ (λ j. joined 16 8 at (at + 16) m refl j && allZero (take 8 (drop (at + 24) m)) && allZero (take 4 (drop (at + 32) m)))
+    ∙ (λ j. joined 24 8 at (at + 24) m refl j && allZero (take 4 (drop (at + 32) m)))
+    ∙ joined 32 4 at (at + 32) m refl
+
+-- a first byte that is not zero
+pub first-set : (m : List ℕ) → (getD m 0 0 ≡ 0 → ⊥) → false ≡ allZero m
+first-set [] h = absurd (h refl)
+first-set (x ∷ m) h = ap (λ (b : Bool). b && allZero m) (sym (ne-eqb 0 x (λ e. h (sym e))))

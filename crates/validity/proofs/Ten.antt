@@ -1,6 +1,7 @@
 -- Ten places of either kind, filters or periodics: place by place, and where there is none. Assumes nothing.
 use mathlib.Core.Path.{_≡_, refl}
-use Prim.Native.Nat.{ℕ}
+use Prim.Native.Nat.{ℕ, _<_}
+use native.Mathlib.Omega.{arith}
 use mathlib.Core.Bool.{Bool, true, false}
 use mathlib.Core.List.{List}
 use lib.ListN.{length}
@@ -26,3 +27,9 @@ pub places-none : (timed : Bool) (flags : ℕ) (m : List ℕ) → length m ≡ p
 unfolding placesSize placesValid filters filterColumns filterFits periodics periodicColumns periodicFits eachVia beside via such both many vacant outCell rec36 body row word32 word mark byte noneYet
 places-none true flags m h z = zeros-good (periodics-lawful flags) noneYet 450 m tt refl h z
 places-none false flags m h z = zeros-good (filters-lawful flags) noneYet 270 m tt refl h z
+
+-- they take some bytes
+pub places-some : (timed : Bool) (n : ℕ) → n ≡ placesSize timed → 0 < n
+unfolding placesSize
+places-some true n e = omega arith
+places-some false n e = omega arith

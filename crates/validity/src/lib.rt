@@ -57,6 +57,29 @@ fn twelve_end(s: &[u8], at: usize, n: usize) -> bool
     eight_end(s, at, low) & fits_bytes(word_at(s, at + 8) as u64, n - low)
 }
 
+// Are the 36 bytes at a place zeros? As four numbers of eight bytes and one of four.
+fn no_record(s: &[u8], at: usize) -> bool
+    requires { ⌜ at + 36 ≤ length (now s) ⌝ }
+    ensures { λ r. ⌜ r ≡ allZero (take 36 (drop at (now (s .entry)))) ⌝ }
+{
+    eight_end(s, at, 0)
+        & eight_end(s, at + 8, 0)
+        & eight_end(s, at + 16, 0)
+        & eight_end(s, at + 24, 0)
+        & (word_at(s, at + 32) == 0)
+}
+
+// Nothing but zeros? The first byte is looked at first: where something is held it often tells.
+fn nothing(s: &[u8]) -> bool
+    requires { ⌜ 0 < length (now s) ⌝ }
+    ensures { λ r. ⌜ r ≡ allZero (now (s .entry)) ⌝ }
+{
+    if s[0] != 0 {
+        return false;
+    }
+    all_zero(s)
+}
+
 // The 36 bytes of a record, whatever it waits for: protocol, size, extra index, zeros after the data.
 fn plain_record(s: &[u8]) -> bool
     requires { ⌜ length (now s) ≡ 36 ⌝ }
@@ -169,12 +192,12 @@ fn periodic(s: &[u8], i: usize, flags: u32) -> bool
     let phase = word_at(s, 40 + i * 4) as u64;
     let pending = s[80 + i];
     let a = 90 + i * 36;
-    let e = a + 36;
     if s[a] == 0 {
         return (pending <= 1)
-            & all_zero(&s[a..e])
+            & no_record(s, a)
             & ((interval == 0) & (phase == 0) & !(1 == pending));
     }
+    let e = a + 36;
     (pending <= 1)
         & cell(&s[a..e], flags, true)
         & ((5 <= interval) & (interval <= 65535) & (phase < 1000 * interval))
@@ -196,7 +219,7 @@ fn places(s: &[u8], flags: u32, timed: bool) -> bool
     requires { ⌜ length (now s) ≡ placesSize timed ⌝ }
     ensures { λ r. ⌜ r ≡ placesValid timed flags (now (s .entry)) ⌝ }
 {
-    if all_zero(s) {
+    if nothing(s) {
         return true;
     }
     let mut good = true;

@@ -1,7 +1,6 @@
 -- `validity::periodic` meets its contract: an empty place, a periodic. Assumes nothing.
 use Rattle.validity.proofs.Periodics.{periodic-empty, periodic-taken}
 use Rattle.validity.specs.Place.{cell, recordAt}
-use Rattle.codec.specs.Plain.{allZero}
 use lib.ListN.{getD, take, drop}
 use lib.Dec.{eqb, leb, ltb}
 use native.Mathlib.Omega.{arith}
@@ -15,16 +14,14 @@ use Rattle.validity.proofs.periodic.Tie as tie
 
 returns : tie.Need-returns
 unfolding recordAt
-returns c = let phased = c .before .before .before .before .before in
+returns c = let phased = c .before .before .before .before in
     let start = phased .before .before .before in
     let s : List ℕ = start .args .s .now in
     let i : ℕ = start .args .i in
     let p : ℕ = getD s (80 + i) 0 in
     let w = phased .before .word-at .ensures in
-    let k : 90 + i * 36 + 36 - (90 + i * 36) ≡ 36 = omega arith in
-    let z = c .all-zero .ensures ∙ ap (λ (n : ℕ). allZero (take n (drop (90 + i * 36) s))) k in
-    (λ j. leb p 1 && z j && (eqb (w .0 j) 0 && eqb (phased .word-at2 .ensures .0 j) 0 && not (eqb 1 p)))
-    ∙ periodic-empty (start .args .flags) i s (omega arith) (w .1) (c .before .before .if1 .taken)
+    (λ j. leb p 1 && c .no-record .ensures j && (eqb (w .0 j) 0 && eqb (phased .word-at2 .ensures .0 j) 0 && not (eqb 1 p)))
+    ∙ periodic-empty (start .args .flags) i s (omega arith) (w .1) (c .before .if1 .taken)
 
 returns-2 : tie.Need-returns-2
 unfolding recordAt cell
@@ -55,12 +52,9 @@ periodic-spec =
     (λ c. search needs)
     (λ c. search needs)
     (λ c. search needs)
-    (λ c. search needs)
-    (λ c. search needs)
-    (λ c. search needs)
-    (λ c. search needs)
     (λ c κs. search needs)
     returns
+    (λ c. search needs)
     (λ c. search needs)
     (λ c. search needs)
     (λ c. search needs)

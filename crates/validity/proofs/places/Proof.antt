@@ -1,5 +1,5 @@
 -- `validity::places` meets its contract. The invariant: the places passed are good. Assumes nothing.
-use Rattle.validity.proofs.Ten.{places-flat, places-none}
+use Rattle.validity.proofs.Ten.{places-flat, places-none, places-some}
 use Rattle.validity.proofs.Columns.{below-more}
 use Rattle.validity.specs.Place.{placeGood}
 use Rattle.codec.proofs.Lists.{bytes-of}
@@ -21,7 +21,7 @@ abbrev μ-loop : tie.MeasureT-loop
 
 returns : tie.Need-returns Inv-loop μ-loop
 returns c = let start = c .before .before .before in
-    places-none (start .args .timed) (start .args .flags) (start .args .s .now) (start .pre) (sym (c .before .all-zero .ensures) ∙ c .if1 .taken)
+    places-none (start .args .timed) (start .args .flags) (start .args .s .now) (start .pre) (sym (c .before .nothing .ensures) ∙ c .if1 .taken)
 
 loop-holds : tie.Need-loop-holds Inv-loop μ-loop
 unfolding allBelow
@@ -48,7 +48,7 @@ places-spec =
     (tie.spec
     Inv-loop
     μ-loop
-    (λ c κs. search needs)
+    (λ c κs. places-some (c .before .args .timed) _ (c .before .pre))
     returns
     loop-holds
     (λ c κs. search needs)
