@@ -1,13 +1,16 @@
 // The box as C calls it: numbers and byte slices only. A number that goes with a code is stored through a pointer, always: 0 where there is none.
 ghost use mathlib.Core.Path.{_≡_};
 ghost use mathlib.Core.List.{[]};
+ghost use mathlib.Core.Bool.{not};
+ghost use lib.Dec.{eqb};
 ghost use Rattle.machine.specs.Codes.{threeRates};
 ghost use Rattle.machine.specs.Channel.{disconnect, clear, write, read, takeNext, sent, startFilter, stopFilter, startPeriodic, stopPeriodic, getParameter, setParameter};
 ghost use Rattle.machine.specs.Device.{call, connect, close, advance, frame};
 ghost use Rattle.layout.specs.Memory.{valid};
 ghost use Rattle.layout.specs.Promise.{gives, outcome, powerOnOutcome};
 ghost use Rattle.telegram.specs.Bits.{bitValue};
-ghost use Rattle.telegram.specs.Telegram.{timeOf};
+ghost use Rattle.telegram.specs.Telegram.{timeOf, readAny};
+ghost use Rattle.packing.specs.Record.{gave, reading, writing};
 
 // A test as a number.
 fn bit(b: bool) -> u32
@@ -202,6 +205,29 @@ pub extern "C" fn trawl_set(mem: &mut [u8], channel: u32, parameter: u32, value:
     ensures { λ c. ⌜ gives c 0 [] (now (mem .exit)) ≡ outcome threeRates (now (mem .entry)) (call channel (setParameter parameter value)) ⌝ }
 {
     device::set(mem, channel, parameter, value)
+}
+
+// The record of the telegram that `bytes` are, over the start of a buffer: an opening one where `opening` is not 0, else one on a channel.
+#[no_mangle]
+pub extern "C" fn trawl_read_telegram(
+    opening: u32,
+    identifier: u32,
+    bytes: &[u8],
+    telegram: &mut [u8],
+) -> u32
+    ensures { λ c. ⌜ gave c 0 (now (telegram .exit)) ≡ reading (readAny (not (eqb opening 0)) identifier (now (bytes .entry))) (now (telegram .entry)) ⌝ }
+{
+    packing::read(opening != 0, identifier, bytes, telegram)
+}
+
+// The bytes of the telegram that a record says, over the start of a buffer; how many.
+#[no_mangle]
+pub extern "C" fn trawl_write_telegram(telegram: &[u8], buffer: &mut [u8], length: &mut u32) -> u32
+    ensures { λ c. ⌜ gave c (now (length .exit)) (now (buffer .exit)) ≡ writing (now (telegram .entry)) (now (buffer .entry)) ⌝ }
+{
+    let answer = packing::write(telegram, buffer);
+    *length = answer.value;
+    answer.code
 }
 
 // A time byte in units of 0.1 ms. T1 = 0xFF means no time-out: its entry, 63,000, is for whoever uses T1 to pass over.

@@ -1,0 +1,17 @@
+-- `packing::saying::only_if` meets its contract. Assumes nothing.
+use mathlib.Core.Path.{sym}
+use Rattle.telegram.proofs.Tests.{let-through, stopped}
+use Rattle.tp20.specs.Face.{takenSaid}
+use Rattle.packing.proofs.saying.only_if.Statement.{statement}
+use Rattle.packing.proofs.saying.only_if.Tie as tie
+
+returns : tie.Need-returns
+unfolding takenSaid
+returns c = λ bytes. sym (let-through _ _ (c .if1 .taken))
+
+returns-2 : tie.Need-returns-2
+unfolding takenSaid
+returns-2 c = λ bytes. sym (stopped _ _ (c .if1 .left))
+
+pub only-if-spec : {M : Type 1} → statement M
+only-if-spec = tie.close (tie.spec returns returns-2)

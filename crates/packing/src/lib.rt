@@ -1,0 +1,74 @@
+// Telegrams as records of 32 bytes, as they cross to C.
+ghost use mathlib.Core.Path.{_≡_};
+ghost use Prim.Native.Nat.{min};
+ghost use Rattle.telegram.specs.Telegram.{readAny};
+ghost use Rattle.packing.specs.Record.{gave, reading, writing};
+use codes::Answer;
+use codes::ERR_INVALID_MSG;
+use codes::ERR_NULL_PARAMETER;
+use codes::STATUS_NOERROR;
+use tp20::Taken;
+
+mod filling; // filling.rt: a telegram's numbers into a record
+mod saying; // saying.rt: the telegram that a record says
+
+// The size of a record in bytes.
+pub const RECORD: usize = 32;
+
+// The room that the bytes of any telegram have.
+pub const ROOM: usize = 8;
+
+// The record of the telegram that `bytes` are, over the start of a buffer.
+pub fn read(opening: bool, identifier: u32, bytes: &[u8], telegram: &mut [u8]) -> u32
+    ensures { λ c. ⌜ gave c 0 (now (telegram .exit)) ≡ reading (readAny opening identifier (now (bytes .entry))) (now (telegram .entry)) ⌝ }
+{
+    if telegram.len() < RECORD {
+        return ERR_NULL_PARAMETER;
+    }
+    let named = tp20::name(opening, identifier, bytes);
+    let code = named.code;
+    if code != STATUS_NOERROR {
+        return code;
+    }
+    let fields = named.fields;
+    let payload = named.payload;
+    let record = filling::pack(named.kind, fields, named.len as u8, payload);
+    octets::copy(&mut telegram[..32], &record);
+    STATUS_NOERROR
+}
+
+// How many of the seven bytes are carried.
+fn carried(n: u8) -> usize
+    ensures { λ r. ⌜ r ≡ min n 7 ⌝ }
+{
+    if n < 7 { n as usize } else { 7 }
+}
+
+// A code, and nothing written.
+fn refused(code: u32) -> Answer
+    ensures { λ a. ⌜ (a .code ≡ code) × (a .value ≡ 0) ⌝ }
+{
+    Answer { code, value: 0 }
+}
+
+// The bytes of the telegram that a record says, over the start of a buffer; how many.
+pub fn write(telegram: &[u8], buffer: &mut [u8]) -> Answer
+    ensures { λ a. ⌜ gave (a .code) (a .value) (now (buffer .exit)) ≡ writing (now (telegram .entry)) (now (buffer .entry)) ⌝ }
+{
+    if telegram.len() < RECORD {
+        return refused(ERR_NULL_PARAMETER);
+    }
+    if buffer.len() < ROOM {
+        return refused(ERR_NULL_PARAMETER);
+    }
+    let taken = saying::telegram(telegram);
+    let Taken::Yes(said) = taken else {
+        return refused(ERR_INVALID_MSG);
+    };
+    let end = 25 + carried(telegram[24]);
+    let written = tp20::write(said, &telegram[25..end], buffer);
+    Answer {
+        code: written.code,
+        value: written.len as u32,
+    }
+}
