@@ -32,9 +32,11 @@
 extern "C" {
 #endif
 
-/* The size of the device memory, and of a message record. */
+/* The size of the device memory, of a message record and of a telegram record, and the room for the bytes of a telegram. */
 #define TRAWL_MEMORY 9996u
 #define TRAWL_RECORD 36u
+#define TRAWL_TELEGRAM 32u
+#define TRAWL_TELEGRAM_ROOM 8u
 
 /* Codes, by J2534-1's names. */
 #define STATUS_NOERROR 0x00u
@@ -128,8 +130,45 @@ uint32_t trawl_take(uint8_t *memory, size_t memory_length, uint32_t channel, uin
 uint32_t trawl_sent(uint8_t *memory, size_t memory_length, uint32_t channel);
 
 uint32_t trawl_clear(uint8_t *memory, size_t memory_length, uint32_t channel, uint32_t kind);
-uint32_t trawl_get(uint8_t *memory, size_t memory_length, uint32_t channel, uint32_t parameter, uint32_t *value);
+uint32_t trawl_get(const uint8_t *memory, size_t memory_length, uint32_t channel, uint32_t parameter, uint32_t *value);
 uint32_t trawl_set(uint8_t *memory, size_t memory_length, uint32_t channel, uint32_t parameter, uint32_t value);
+
+/* ---- TP2.0 telegrams (SAE J2819) ---- */
+
+/* A telegram is a record of 32 bytes, numbers lowest byte first: bytes 0 to 3 the kind, 4 to 23 five fields of four bytes each, 24 how many
+ * bytes the telegram carries, 25 to 31 those bytes. The fields of each kind, in order:
+ *   TRAWL_SET_UP              identifier, destination, RX-ID, application
+ *   TRAWL_POSITIVE            identifier, destination, TX-ID, RX-ID, application
+ *   TRAWL_NEGATIVE_D6 to D8   identifier, destination; carries 5 bytes
+ *   TRAWL_DATA                asks for an acknowledgement (0 or 1), last (0 or 1), SN; carries 0 to 7 bytes
+ *   TRAWL_ACKNOWLEDGE         ready (0 or 1), SN
+ *   TRAWL_CONNECTION_SET_UP, TRAWL_CONNECTION_ACKNOWLEDGE   block size, T1, T3
+ *   TRAWL_TEST, TRAWL_BREAK, TRAWL_DISCONNECT               none
+ * The reader writes zeros for what a kind doesn't have and behind the carried bytes; the writer doesn't look at either. */
+#define TRAWL_SET_UP 0xC0u
+#define TRAWL_POSITIVE 0xD0u
+#define TRAWL_NEGATIVE_D6 0xD6u
+#define TRAWL_NEGATIVE_D7 0xD7u
+#define TRAWL_NEGATIVE_D8 0xD8u
+#define TRAWL_DATA 0x00u
+#define TRAWL_ACKNOWLEDGE 0x90u
+#define TRAWL_CONNECTION_SET_UP 0xA0u
+#define TRAWL_CONNECTION_ACKNOWLEDGE 0xA1u
+#define TRAWL_TEST 0xA3u
+#define TRAWL_BREAK 0xA4u
+#define TRAWL_DISCONNECT 0xA8u
+
+/* The telegram that bytes are, as a record over the first 32 bytes of a buffer. opening is 0 for one on a channel, where the identifier
+ * plays no part, and anything else for an opening one. 0x04 for a buffer under 32 bytes, 0x0A for bytes that are no telegram. */
+uint32_t trawl_read_telegram(uint32_t opening, uint32_t identifier, const uint8_t *bytes, size_t bytes_length, uint8_t *telegram,
+                             size_t telegram_length);
+
+/* The bytes of the telegram that a record says, to the start of a buffer of at least 8 bytes. Gives how many. 0x04 for a record under 32
+ * bytes or a buffer under 8, 0x0A for an unknown kind or a field that the tables don't allow. */
+uint32_t trawl_write_telegram(const uint8_t *telegram, size_t telegram_length, uint8_t *buffer, size_t buffer_length, uint32_t *length);
+
+/* A time byte (T1, T3) in units of 0.1 ms. T1 = 0xFF means no time-out: its entry, 63,000, is for whoever uses T1 to pass over. */
+uint32_t trawl_time(uint8_t byte);
 
 #ifdef __cplusplus
 }
