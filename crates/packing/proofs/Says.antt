@@ -2,7 +2,7 @@
 use Prim.Native.Nat.{ℕ, _+_, _-_, _%_, _≤_, _<_, min}
 use mathlib.Core.Path.{_≡_, refl, sym, ap, _∙_}
 use mathlib.Core.Bool.{Bool, true, false, _&&_, false≢true}
-use mathlib.Core.Option.{Option, none, some}
+use mathlib.Core.Option.{none, some}
 use mathlib.Core.List.{List}
 use native.Mathlib.Nat.{mod-eq-of-lt}
 use native.Mathlib.Omega.{arith}
@@ -30,7 +30,7 @@ looser n j k h e = let l = leb-true n j e in le-leb n k (omega arith)
 is-small : (n k : ℕ) → k ≤ 0xFF → eqb n k ≡ true → leb n 0xFF ≡ true
 is-small n k h e = let l = eqb-true n k e in le-leb n 0xFF (omega arith)
 
-application-small : (a : ℕ) → isApplication a ≡ true → leb a 0xFF ≡ true
+pub application-small : (a : ℕ) → isApplication a ≡ true → leb a 0xFF ≡ true
 application-small a =
     either {a = eqb a 0x01} (is-small a 0x01 (omega arith))
     (either {a = eqb a 0x10} (is-small a 0x10 (omega arith))

@@ -1,7 +1,7 @@
 -- HOW A TELEGRAM CROSSES TO C: a record of 32 bytes, numbers lowest byte first. Bytes 0 to 3 the kind, 4 to 23 five fields of four bytes
 -- each, 24 the number of bytes that it carries, 25 to 31 those bytes, zeros after them. Assumes nothing.
 use Prim.Native.Nat.{ℕ, _/_, min}
-use mathlib.Core.Bool.{Bool, _&&_}
+use mathlib.Core.Bool.{_&&_}
 use mathlib.Core.Option.{Option, none, some}
 use mathlib.Core.List.{List, [], _∷_, _++_}
 use lib.ListN.{length, getD, take, drop}
