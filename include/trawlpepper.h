@@ -170,6 +170,16 @@ uint32_t trawl_write_telegram(const uint8_t *telegram, size_t telegram_length, u
 /* A time byte (T1, T3) in units of 0.1 ms. T1 = 0xFF means no time-out: its entry, 63,000, is for whoever uses T1 to pass over. */
 uint32_t trawl_time(uint8_t byte);
 
+/* ---- recordings ---- */
+
+/* The bytes that a buffer has to have for the replay of a recording of n bytes. */
+#define TRAWL_REPLAY_ROOM(n) ((size_t)(n) > 32768u ? (size_t)2u : 19u * (size_t)(n) + 2306u)
+
+/* Replays a recording from power-on into a buffer of at least TRAWL_REPLAY_ROOM(recording_length) bytes, else 0x04. Gives how many bytes the
+ * output has; a bad event ends it with the number 255, and a recording of more than 32,768 bytes counts as one. The replay has a memory of its
+ * own, TRAWL_MEMORY bytes on the stack. */
+uint32_t trawl_replay(const uint8_t *recording, size_t recording_length, uint8_t *out, size_t out_length, size_t *length);
+
 #ifdef __cplusplus
 }
 #endif

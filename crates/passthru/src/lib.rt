@@ -10,6 +10,7 @@ ghost use Rattle.layout.specs.Memory.{valid};
 ghost use Rattle.layout.specs.Promise.{gives, outcome, powerOnOutcome};
 ghost use Rattle.telegram.specs.Bits.{bitValue};
 ghost use Rattle.telegram.specs.Telegram.{timeOf, readAny};
+ghost use Rattle.recording.specs.Replay.{leaves, replayed};
 ghost use Rattle.packing.specs.Record.{gave, reading, writing};
 
 // A test as a number.
@@ -236,4 +237,14 @@ pub extern "C" fn trawl_time(byte: u8) -> u32
     ensures { λ r. ⌜ r ≡ timeOf byte ⌝ }
 {
     tp20::time(byte)
+}
+
+// Replays a recording from power-on into a buffer; how many bytes it gives.
+#[no_mangle]
+pub extern "C" fn trawl_replay(recording: &[u8], out: &mut [u8], length: &mut usize) -> u32
+    ensures { λ c. ⌜ leaves c (now (length .exit)) (now (out .exit)) ≡ replayed (now (recording .entry)) (now (out .entry)) ⌝ }
+{
+    let played = recording::replay(recording, out);
+    *length = played.length;
+    played.code
 }
