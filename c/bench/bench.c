@@ -197,7 +197,7 @@ static void inner(const char *name, const int *kinds, unsigned n, uint32_t filte
     unsigned events;
     size_t size = make(kinds, n, filters, &events);
     double x = 1e9, y = 1e9, t;
-    uint32_t a, b;
+    size_t a, b;
     for (int r = 0; r < runs; r++) {
         t = seconds();
         trawl_replay(recording, size, core_out, sizeof core_out, &a);

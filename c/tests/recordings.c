@@ -86,7 +86,8 @@ static int is_guarded(const uint8_t *room, size_t n) {
 }
 
 static void both(size_t n, size_t room) {
-    uint32_t a, b, x = 77, y = 77;
+    uint32_t a, b;
+    size_t x = 77, y = 77;
     memset(core, 0x55, room), memset(twin, 0x55, room);
     guard(core_room, room);
     a = trawl_replay(recording, n, core, room, &x);

@@ -100,7 +100,7 @@ static uint8_t *play(uint8_t *m, input *in, uint8_t *out) {
     }
 }
 
-uint32_t twin_replay(const uint8_t *recording, size_t n, uint8_t *out, size_t room, uint32_t *length) {
+uint32_t twin_replay(const uint8_t *recording, size_t n, uint8_t *out, size_t room, size_t *length) {
     uint8_t m[TWIN_MEMORY] = {0}, *at = out;
     input in = {recording, recording + n, n > LONGEST};
     *length = 0;
@@ -109,6 +109,6 @@ uint32_t twin_replay(const uint8_t *recording, size_t n, uint8_t *out, size_t ro
     while (!in.bad && in.at < in.end) at = play(m, &in, at);
     twin_trusts = 0;
     if (in.bad) at = put(at, BAD);
-    *length = (uint32_t)(at - out);
+    *length = (size_t)(at - out);
     return 0;
 }

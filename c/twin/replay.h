@@ -6,6 +6,6 @@
 #include <stdint.h>
 
 /* Plays a recording from power-on; its output is put at the start of a buffer, whose size is looked at first. */
-uint32_t twin_replay(const uint8_t *recording, size_t n, uint8_t *out, size_t room, uint32_t *length);
+uint32_t twin_replay(const uint8_t *recording, size_t n, uint8_t *out, size_t room, size_t *length);
 
 #endif
