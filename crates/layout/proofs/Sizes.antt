@@ -9,7 +9,28 @@ use Rattle.machine.specs.Device.{powerOn}
 use Rattle.layout.specs.Record.{row, body, rec36, outCell, inCell}
 use Rattle.layout.specs.Memory.{config, filterColumns, filters, periodicColumns, periodics, sendingPart, receivingPart, rest, openPart, region, memory, image}
 
+-- ---- columns of ten: a byte, a mark, a row of twelve bytes, a number of four
+pub bytes-size : many 10 byte .size ≡ 10
+unfolding many byte
+bytes-size = refl
+
+pub marks-size : many 10 mark .size ≡ 10
+unfolding many mark via such byte
+marks-size = refl
+
+pub rows-size : many 10 row .size ≡ 120
+unfolding many row via such byte
+rows-size = refl
+
+pub numbers-size : many 10 word32 .size ≡ 40
+unfolding many word32 via such byte
+numbers-size = refl
+
 module _ (flags : ℕ) where
+  pub store-size : many 10 (vacant (outCell flags)) .size ≡ 360
+  unfolding many vacant outCell rec36 body row via such both word32 byte
+  store-size = refl
+
   pub out-size : outCell flags .size ≡ 36
   unfolding outCell rec36 body row via such both many word32 byte
   out-size = refl

@@ -12,7 +12,7 @@ use lib.ListN.{take, drop}
 use lib.Dec.{eqb, leb, ltb, T, T-not, nltb→le}
 use Rattle.codec.proofs.Tests.{true-T, or-left}
 use Rattle.codec.specs.Plain.{if_then_else_, within, member}
-use Rattle.machine.specs.Codes.{table, codeOf}
+use Rattle.machine.specs.Codes.{stepCodes, table, codeOf}
 use Rattle.machine.specs.Message.{idBytes, Rec, messageCode, shownAll, clean}
 use Rattle.machine.specs.Channel.{Chan, closed, opened, Open, Call, disconnect, startFilter, stopFilter, startPeriodic, stopPeriodic, write, read, takeNext, sent, clear, getParameter, setParameter, lent, Answer, says, Outcome, Sending, withSending, Receiving, withReceiving, unless, doneWith, filterCode, onStartFilter, onStopFilter, frameCode, offered, onFrame, readCode, reading, onRead, Wrote, writeCode, unlessStopped, writing, onWrite, periodicCode, onStartPeriodic, onStopPeriodic, onAdvance, Next, next, giving, chosen, taking, onTake, sending, onSent, onClear, onGet, onSet, connectCode, onConnect, onOpen, onCall}
 use Rattle.machine.specs.Device.{Device, Event, connect, call, frame, advance, close, lentBy, powerOn, chanAt, speaker, ownAnswer, chanStep, clockAfter, answer, step, run}
@@ -31,6 +31,16 @@ either-in : (codes : List ℕ) (g : Bool) (x y : ℕ) → T (member x codes) →
 either-in codes true x y p q = p
 either-in codes false x y p q = q
 
+-- a code that is in a list is in a longer one
+in-more : (n : ℕ) (codes more : List ℕ) → T (member n codes) → T (member n (codes ++ more))
+unfolding member
+in-more n [] more h = absurd h
+in-more n (k ∷ codes) more h = go (in-more n codes more) (eqb n k) h
+  where
+    go : (T (member n codes) → T (member n (codes ++ more))) → (b : Bool) → T (b || member n codes) → T (b || member n (codes ++ more))
+    go longer true t = tt
+    go longer false t = longer t
+
 -- and where its test fails, the second is enough
 either-out : (codes : List ℕ) (g : Bool) (x y : ℕ) → g ≡ false → T (member y codes) → T (member (if g then x else y) codes)
 either-out codes g x y h q = subst (λ (n : ℕ). T (member n codes)) (sym (if-out g x y h)) q
@@ -38,13 +48,13 @@ either-out codes g x y h q = subst (λ (n : ℕ). T (member n codes)) (sym (if-o
 -- every code that the tests can give is in the table
 abbrev Listed : List (Bool × ℕ) → Type 0
 Listed [] = Unit {0}
-Listed (t ∷ ts) = T (member (t .1) table) × Listed ts
+Listed (t ∷ ts) = T (member (t .1) stepCodes) × Listed ts
 
 -- then so is the code that they give
-codeOf-listed : (ts : List (Bool × ℕ)) → Listed ts → T (member (codeOf ts) table)
+codeOf-listed : (ts : List (Bool × ℕ)) → Listed ts → T (member (codeOf ts) stepCodes)
 unfolding codeOf
-codeOf-listed [] h = unfold member table in tt
-codeOf-listed (t ∷ ts) h = either-in table (t .0) (t .1) (codeOf ts) (h .0) (codeOf-listed ts (h .1))
+codeOf-listed [] h = unfold member stepCodes in tt
+codeOf-listed (t ∷ ts) h = either-in stepCodes (t .0) (t .1) (codeOf ts) (h .0) (codeOf-listed ts (h .1))
 
 -- ---- outcomes
 
@@ -60,7 +70,7 @@ if-case P false x y p q = q
 
 -- what demand 1 asks of a channel's outcome: its code is in the table, and where it is a refusal the channel and the lent buffer stay
 record Fair (e : Event) (c : Chan) (o : Outcome) : Type 0 where
-  listed : T (member (o .1 .code) table)
+  listed : T (member (o .1 .code) stepCodes)
   leaves : T (refusal e (o .1)) → (o .0 ≡ c) × (o .1 .buffer ≡ lentBy e)
 
 -- 0x00 is no refusal
@@ -70,7 +80,7 @@ not-refused e a z t = subst (λ (k : ℕ). T (not (member k results || wroteSome
 
 module _ {e : Event} {c : Chan} where
   -- an outcome that is no refusal
-  settled : (o : Outcome) → T (member (o .1 .code) table) → T (member (o .1 .code) results) → Fair e c o
+  settled : (o : Outcome) → T (member (o .1 .code) stepCodes) → T (member (o .1 .code) results) → Fair e c o
   unfolding refusal
   settled o l r =
       record {
@@ -79,12 +89,12 @@ module _ {e : Event} {c : Chan} where
       }
 
   -- an outcome that leaves everything, with any code of the table
-  kept : (k v : ℕ) (b : List ℕ) → b ≡ lentBy e → T (member k table) → Fair e c (c, says k v b)
+  kept : (k v : ℕ) (b : List ℕ) → b ≡ lentBy e → T (member k stepCodes) → Fair e c (c, says k v b)
   unfolding says
   kept k v b z l = record { listed = l; leaves = λ t. (refl, z) }
 
   -- refused by a table of tests, else what the call does
-  refused-or : (k : ℕ) (b : List ℕ) (o : Outcome) → b ≡ lentBy e → T (member k table) → Fair e c o → Fair e c (unless k c b o)
+  refused-or : (k : ℕ) (b : List ℕ) (o : Outcome) → b ≡ lentBy e → T (member k stepCodes) → Fair e c o → Fair e c (unless k c b o)
   refused-or k b o z l f = unless-case (Fair e c) k c b o f (kept k 0 b z l)
 
   -- one of two outcomes
@@ -94,12 +104,12 @@ module _ {e : Event} {c : Chan} where
 -- ---- a message's code, a read's code
 
 -- both are in the table
-messageCode-listed : (flags : ℕ) (m : List ℕ) → T (member (messageCode flags m) table)
-unfolding messageCode table member
+messageCode-listed : (flags : ℕ) (m : List ℕ) → T (member (messageCode flags m) stepCodes)
+unfolding messageCode stepCodes member
 messageCode-listed flags m = search (codeOf-listed, tt) depth 16
 
-readCode-listed : (lost : Bool) (n m : ℕ) → T (member (readCode lost n m) table)
-unfolding readCode table member
+readCode-listed : (lost : Bool) (n m : ℕ) → T (member (readCode lost n m) stepCodes)
+unfolding readCode stepCodes member
 readCode-listed lost n m = search (either-in, tt)
 
 -- a read's code is a result, or the lost mark is not set and nothing is moved
@@ -114,29 +124,29 @@ read-nothing false n m = by (eqb m 0) refl
 
 -- ---- a write
 
-writeCode-listed : (flags : ℕ) (held : List Rec) (m : List ℕ) → T (member (writeCode flags held m) table)
-unfolding writeCode table member
+writeCode-listed : (flags : ℕ) (held : List Rec) (m : List ℕ) → T (member (writeCode flags held m) stepCodes)
+unfolding writeCode stepCodes member
 writeCode-listed flags held m = search (codeOf-listed, messageCode-listed, tt) depth 16
 
 -- a write of b's records, with these held and counted so far: its code is in the table, and it ends with as many more records of b as it counts
 pub record Written (b : List ℕ) (held : List Rec) (count : ℕ) (w : Wrote) : Type 0 where
-  pub listed : T (member (w .code) table)
+  pub listed : T (member (w .code) stepCodes)
   pub more : ℕ
   pub counted : w .count ≡ count + more
   pub queued : w .held ≡ held ++ stored more b
 
 -- a write that stops here
-stops : (b : List ℕ) (held : List Rec) (count code : ℕ) → T (member code table) → Written b held count (record { held = held; count = count; code = code })
+stops : (b : List ℕ) (held : List Rec) (count code : ℕ) → T (member code stepCodes) → Written b held count (record { held = held; count = count; code = code })
 unfolding stored
 stops b held count code l = record { listed = l; more = 0; counted = omega arith; queued = sym (append-nil held) }
 
 pub writing-stored : (flags n : ℕ) (b : List ℕ) (held : List Rec) (count : ℕ) → Written b held count (writing flags n b held count)
-unfolding writing unlessStopped stored table member
+unfolding writing unlessStopped stored stepCodes member
 writing-stored flags zero b held count = stops b held count 0x00 tt
 writing-stored flags (suc n) b held count =
     by (writeCode flags held b) (writeCode-listed flags held b) (writing-stored flags n (drop 36 b) (held ++ clean b ∷ []) (count + 1))
   where
-    by : (k : ℕ) → T (member k table) → {w : Wrote} → Written (drop 36 b) (held ++ clean b ∷ []) (count + 1) w
+    by : (k : ℕ) → T (member k stepCodes) → {w : Wrote} → Written (drop 36 b) (held ++ clean b ∷ []) (count + 1) w
         → Written b held count (unlessStopped k held count w)
     by zero l q =
         record {
@@ -167,7 +177,7 @@ ruleset fair = (kept, settled, refused-or, one-or, codeOf-listed, either-in, mes
 module _ (k : ℕ) (o : Open) where
   -- a write: a refusal counts none, so it queued none
   write-fair : (n : ℕ) (b : List ℕ) → Fair (call k (write n b)) (opened o) (onWrite o n b)
-  unfolding onWrite lentBy lent table member refusal wroteSome isWrite says withSending
+  unfolding onWrite lentBy lent stepCodes member refusal wroteSome isWrite says withSending
   write-fair n b =
       let s : Sending = o .sending in
       let w : Wrote = writing (o .config .flags) n b (s .written) 0 in
@@ -196,12 +206,12 @@ module _ (k : ℕ) (o : Open) where
       }
 
   read-fair : (n : ℕ) (b : List ℕ) → Fair (call k (read n b)) (opened o) (onRead o n b)
-  unfolding onRead lentBy lent table member
+  unfolding onRead lentBy lent stepCodes member
   read-fair n b = search (fair, reading-fair)
 
   -- a take and a sent: refused where there is no frame
   take-fair : (b : List ℕ) → Fair (call k (takeNext b)) (opened o) (onTake o b)
-  unfolding onTake lentBy lent table member results taking chosen giving says
+  unfolding onTake lentBy lent stepCodes member results taking chosen giving says
   take-fair b = refused-or _ _ _ refl (codeOf-listed _ (tt, tt)) (from (o .sending .flight))
     where
       next-fair : (x : Option Next) → Fair (call k (takeNext b)) (opened o) (chosen o x b)
@@ -213,7 +223,7 @@ module _ (k : ℕ) (o : Open) where
       from none = next-fair (next (o .sending .periodics) (o .sending .written))
 
   sent-fair : (now : ℕ) → Fair (call k sent) (opened o) (onSent now o)
-  unfolding onSent sending lentBy lent table member results doneWith says
+  unfolding onSent sending lentBy lent stepCodes member results doneWith says
   sent-fair now = from (o .sending .flight)
     where
       from : (f : Option Rec) → Fair (call k sent) (opened o) (sending now o f)
@@ -222,7 +232,7 @@ module _ (k : ℕ) (o : Open) where
 
   -- every call
   open-fair : (rates : List ℕ) (now : ℕ) (x : Call) → Fair (call k x) (opened o) (onOpen rates now o x)
-  unfolding onOpen onStartFilter onStopFilter onStartPeriodic onStopPeriodic onClear onGet onSet filterCode periodicCode lentBy lent table member results doneWith says
+  unfolding onOpen onStartFilter onStopFilter onStartPeriodic onStopPeriodic onClear onGet onSet filterCode periodicCode lentBy lent stepCodes member results doneWith says
   open-fair rates now disconnect = search fair
   open-fair rates now (startFilter t m p) = search fair depth 16
   open-fair rates now (stopFilter n) = search fair
@@ -241,7 +251,7 @@ module _ (k : ℕ) (o : Open) where
 module _ (rates : List ℕ) where
   -- what an event does to a channel that it touches
   chanStep-fair : (now : ℕ) (c : Chan) (e : Event) → Fair e c (chanStep rates now c e)
-  unfolding chanStep onConnect connectCode onCall lentBy table member results doneWith says
+  unfolding chanStep onConnect connectCode onCall lentBy stepCodes member results doneWith says
   chanStep-fair now c (connect l p f r) = search fair depth 16
   chanStep-fair now closed (call k x) = search fair
   chanStep-fair now (opened o) (call k x) = open-fair k o rates now x
@@ -250,22 +260,27 @@ module _ (rates : List ℕ) where
   chanStep-fair now c close = search fair
 
   -- an answer that is no channel's
-  ownAnswer-listed : (e : Event) → T (member (ownAnswer rates e .code) table)
-  unfolding ownAnswer says connectCode frameCode table member
+  ownAnswer-listed : (e : Event) → T (member (ownAnswer rates e .code) stepCodes)
+  unfolding ownAnswer says connectCode frameCode stepCodes member
   ownAnswer-listed (connect l p f r) = search (codeOf-listed, tt) depth 16
   ownAnswer-listed (call k x) = tt
   ownAnswer-listed (frame l w n b) = search (codeOf-listed, tt) depth 16
   ownAnswer-listed (advance t) = search (codeOf-listed, tt) depth 16
   ownAnswer-listed close = tt
 
-  -- DEMAND 1. Every answer's code is in the scope's table
-  pub codes-in-table : (d : Device) (e : Event) → T (member (step rates d e .1 .code) table)
+  -- every answer's code is one of those that an event can be answered with, and so never 0x1A
+  pub step-codes : (d : Device) (e : Event) → T (member (step rates d e .1 .code) stepCodes)
   unfolding step
-  codes-in-table d e = by (speaker e) refl
+  step-codes d e = by (speaker e) refl
     where
-      by : (s : Option ℕ) → speaker e ≡ s → T (member (answer rates d e .code) table)
+      by : (s : Option ℕ) → speaker e ≡ s → T (member (answer rates d e .code) stepCodes)
       by none q = rw (answer-own rates d e q) (ownAnswer-listed e)
       by (some i) q = rw (answer-spoken rates d e i q) (chanStep-fair (d .clock) (chanAt i d) e .listed)
+
+  -- DEMAND 1. Every answer's code is in the scope's table
+  pub codes-in-table : (d : Device) (e : Event) → T (member (step rates d e .1 .code) table)
+  unfolding table
+  codes-in-table d e = in-more (step rates d e .1 .code) stepCodes (0x1A ∷ []) (step-codes d e)
 
   -- a step that, where it is a refusal, leaves the device and the lent buffer
   abbrev Left : Device → Event → Device × Answer → Type 0

@@ -11,7 +11,7 @@ use lib.ListN.{length, getD, set, take, drop, length-append, length-take, length
 use lib.Dec.{T, eqb, leb, ltb, ltb→lt, leb→le}
 use Rattle.codec.proofs.Tests.{left, right, true-T}
 use Rattle.codec.specs.Plain.{if_then_else_, within, member, all}
-use Rattle.machine.specs.Codes.{table}
+use Rattle.machine.specs.Codes.{stepCodes, table}
 use Rattle.machine.specs.Message.{Rec, received, widthFlag, idBytes, takes}
 use Rattle.machine.specs.Filter.{passes}
 use Rattle.machine.specs.Channel.{Chan, closed, opened, Open, Call, disconnect, startFilter, stopFilter, startPeriodic, stopPeriodic, write, read, takeNext, sent, clear, getParameter, setParameter, lent, Answer, says, Outcome, withConfig, withFilters, withSending, withReceiving, unless, doneWith, onStartFilter, onStopFilter, arrive, frameCode, offered, onFrame, reading, onRead, onWrite, onStartPeriodic, onStopPeriodic, onAdvance, Next, giving, chosen, next, taking, onTake, landed, sending, onSent, onClear, onGet, onSet, onConnect, fresh, onOpen, onCall}
@@ -218,7 +218,7 @@ below-128 (k ∷ codes) h c m = go (below-128 codes (right (ltb k 128) _ h) c) (
     go more false q t = more t
 
 pub small-code : (rates : List ℕ) (d : Device) (e : Event) → step rates d e .1 .code < 128
-unfolding table
+unfolding table stepCodes
 small-code rates d e = below-128 table tt (step rates d e .1 .code) (codes-in-table rates d e)
 
 pub code-byte : (rates : List ℕ) (d : Device) (e : Event) → bytesOf (step rates d e .1 .code) ≡ step rates d e .1 .code ∷ []
