@@ -131,9 +131,10 @@ static void damaged(uint32_t rounds) {
             same_verdict(TRAWL_MEMORY, "verdict on several changed bytes", i);
             memcpy(core, twin, TRAWL_MEMORY);
         }
-        for (size_t n = 0; n <= TRAWL_MEMORY; n += n < 40 || n > TRAWL_MEMORY - 40 ? 1 : 997) {
-            if (n != TRAWL_MEMORY) same_verdict(n, "verdict on another length", n);
-            if (n != TRAWL_MEMORY && trawl_power_on(core, n) != 0x1A) fail("power-on of another length", NULL, n);
+        for (size_t n = 0; n <= TRAWL_MEMORY + GUARD; n++) {
+            if (n == TRAWL_MEMORY || (n > 40 && n < TRAWL_MEMORY - 40 && n % 97)) continue;
+            same_verdict(n, "verdict on another length", n);
+            if (trawl_power_on(core, n) != 0x1A || !memory_guarded(core_room)) fail("power-on of another length", NULL, n);
         }
         for (uint32_t i = 0; i < 500; i++) {
             for (size_t k = 0; k < TRAWL_MEMORY; k++) core[k] = (uint8_t)any();
