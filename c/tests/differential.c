@@ -112,34 +112,71 @@ static void same_verdict(size_t length, const char *what, uint64_t turn) {
     if (memcmp(&mine, &e, sizeof e)) fail("0x1A changed a buffer", &e, turn);
 }
 
+/* every single byte, changed in four ways */
+static void each_byte(void) {
+    for (size_t i = 0; i < TRAWL_MEMORY; i++) {
+        uint8_t was = core[i];
+        uint8_t to[4] = {0, 1, (uint8_t)(was ^ (1u << below(8))), (uint8_t)any()};
+        for (int k = 0; k < 4; k++) {
+            if (to[k] == was) continue;
+            core[i] = to[k];
+            same_verdict(TRAWL_MEMORY, "verdict on one changed byte", i);
+        }
+        core[i] = was;
+    }
+}
+
+/* numbers of four bytes at and beside their limits: a periodic's interval and time, a rate, a record's size */
+static void each_limit(void) {
+    static const uint32_t limits[] = {0, 1, 3, 4, 5, 12, 13, 0x100, 0x101, 0x7FF, 0x800, 0x900, 65535, 65536, 125000, 500000, 5000, 5001, 65535000, 65535001};
+    for (size_t line = 0; line < 4; line++)
+        for (size_t at = 1; at + 4 <= REGION; at += at < 320 || at >= 360 ? 1 : 4) {
+            uint8_t *p = core + 4 + line * REGION + at, was[4];
+            memcpy(was, p, 4);
+            for (size_t k = 0; k < sizeof limits / sizeof *limits; k++) {
+                uint32_t v = limits[k];
+                if (at >= 320 && at < 360) v = 1000 * ((uint32_t)p[-40] | (uint32_t)p[-39] << 8) + (uint32_t)k - 2; /* about its interval */
+                p[0] = (uint8_t)v, p[1] = (uint8_t)(v >> 8), p[2] = (uint8_t)(v >> 16), p[3] = (uint8_t)(v >> 24);
+                same_verdict(TRAWL_MEMORY, "verdict on a number at its limit", at);
+            }
+            memcpy(p, was, 4);
+        }
+}
+
+static void several_bytes(void) {
+    for (uint32_t i = 0; i < 2000; i++) {
+        memcpy(twin, core, TRAWL_MEMORY);
+        for (uint32_t k = 2 + below(4); k > 0; k--) core[below(TRAWL_MEMORY)] = (uint8_t)(chance(50) ? below(3) : any());
+        same_verdict(TRAWL_MEMORY, "verdict on several changed bytes", i);
+        memcpy(core, twin, TRAWL_MEMORY);
+    }
+}
+
+static void each_length(void) {
+    for (size_t n = 0; n <= TRAWL_MEMORY + GUARD; n++) {
+        if (n == TRAWL_MEMORY || (n > 40 && n < TRAWL_MEMORY - 40 && n % 97)) continue;
+        same_verdict(n, "verdict on another length", n);
+        if (trawl_power_on(core, n) != 0x1A || !memory_guarded(core_room)) fail("power-on of another length", NULL, n);
+    }
+}
+
+static void random_bytes(void) {
+    for (uint32_t i = 0; i < 500; i++) {
+        for (size_t k = 0; k < TRAWL_MEMORY; k++) core[k] = (uint8_t)any();
+        same_verdict(TRAWL_MEMORY, "verdict on random bytes", i);
+    }
+}
+
 static void damaged(uint32_t rounds) {
     for (uint32_t r = 0; r < rounds; r++) {
         busy();
-        for (size_t i = 0; i < TRAWL_MEMORY; i++) {
-            uint8_t was = core[i];
-            uint8_t to[4] = {0, 1, (uint8_t)(was ^ (1u << below(8))), (uint8_t)any()};
-            for (int k = 0; k < 4; k++) {
-                if (to[k] == was) continue;
-                core[i] = to[k];
-                same_verdict(TRAWL_MEMORY, "verdict on one changed byte", i);
-            }
-            core[i] = was;
-        }
-        for (uint32_t i = 0; i < 2000; i++) {
-            memcpy(twin, core, TRAWL_MEMORY);
-            for (uint32_t k = 2 + below(4); k > 0; k--) core[below(TRAWL_MEMORY)] = (uint8_t)(chance(50) ? below(3) : any());
-            same_verdict(TRAWL_MEMORY, "verdict on several changed bytes", i);
-            memcpy(core, twin, TRAWL_MEMORY);
-        }
-        for (size_t n = 0; n <= TRAWL_MEMORY + GUARD; n++) {
-            if (n == TRAWL_MEMORY || (n > 40 && n < TRAWL_MEMORY - 40 && n % 97)) continue;
-            same_verdict(n, "verdict on another length", n);
-            if (trawl_power_on(core, n) != 0x1A || !memory_guarded(core_room)) fail("power-on of another length", NULL, n);
-        }
-        for (uint32_t i = 0; i < 500; i++) {
-            for (size_t k = 0; k < TRAWL_MEMORY; k++) core[k] = (uint8_t)any();
-            same_verdict(TRAWL_MEMORY, "verdict on random bytes", i);
-        }
+        each_byte();
+        each_limit();
+        several_bytes();
+        each_length();
+        memset(core + 4 + REGION, 0, REGION), memset(core + 4 + 3 * REGION, 0, REGION); /* channels 2 and 4 closed */
+        each_byte();
+        random_bytes();
     }
 }
 
