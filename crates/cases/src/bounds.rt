@@ -1,6 +1,6 @@
 // Events that are bad or just good enough.
-use crate::ROOM;
 use crate::case;
+use input::ROOM;
 
 // An empty recording writes nothing.
 const EMPTY: [u8; 0] = *b"";

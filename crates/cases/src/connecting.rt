@@ -1,6 +1,6 @@
 // Connections and their configuration.
-use crate::ROOM;
 use crate::case;
+use input::ROOM;
 
 // Lines 0 to 3 give channels 1 to 4; the three rates and four flags.
 const CONNECT_FOUR: [u8; 47] = *b"\x01\x03\x05\x80\x12\xC8\xD0\x07\

@@ -9,13 +9,11 @@ mod starting;
 mod taking;
 mod writing;
 
+use input::ROOM;
 use libc::STDOUT_FILENO;
 
 // How many cases there are.
 const CASES: u32 = 33;
-
-// What a buffer has to have for the answers of any recording.
-const ROOM: usize = 624898;
 
 // The first place at which two slices differ, or the shorter one's end.
 fn place(a: &[u8], b: &[u8]) -> usize {

@@ -1,6 +1,6 @@
 // Bus frames, and filters that match them or not.
-use crate::ROOM;
 use crate::case;
+use input::ROOM;
 
 // Some pass filter and no block filter, whatever their order; none lets nothing in.
 const FILTER_BLOCK: [u8; 354] = *b"\x01\x00\x05\x00\xA0\xC2\x1E\

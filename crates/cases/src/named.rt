@@ -1,6 +1,6 @@
 // The cases that the scope names: its whole example, and its paragraph after the list of cases.
-use crate::ROOM;
 use crate::case;
+use input::ROOM;
 
 // The example of 01-scope.md, byte for byte.
 const WHOLE_EXAMPLE: [u8; 10] = *b"\x01\x00\x05\x00\xA0\xC2\x1E\

@@ -1,6 +1,6 @@
 // The receive queue.
-use crate::ROOM;
 use crate::case;
+use input::ROOM;
 
 // 0x10, 0x00, 0x09; n of 0; order of arrival; timestamps.
 const READ_CODES: [u8; 130] = *b"\x01\x00\x05\x00\xA0\xC2\x1E\

@@ -1,6 +1,6 @@
 // Filters that are started.
-use crate::ROOM;
 use crate::case;
+use input::ROOM;
 
 // The smallest free number, pass and block together; ten at most.
 const FILTER_NUMBERS: [u8; 1157] = *b"\x01\x00\x05\x00\xA0\xC2\x1E\

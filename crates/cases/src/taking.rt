@@ -1,6 +1,6 @@
 // Periodics and the flight.
-use crate::ROOM;
 use crate::case;
+use input::ROOM;
 
 // Slip: counting from the sending. Sent 4 ms late, due 1 ms after that.
 const PERIODIC_FROM_START: [u8; 77] = *b"\x01\x00\x05\x00\xA0\xC2\x1E\

@@ -1,6 +1,6 @@
 // Writes.
-use crate::ROOM;
 use crate::case;
+use input::ROOM;
 
 // Counts and codes to the sixteenth and past it; n of 0.
 const WRITE_COUNTS: [u8; 1332] = *b"\x01\x00\x05\x00\xA0\xC2\x1E\

@@ -1,10 +1,13 @@
-// A recording from standard input.
+// A recording from standard input, and the buffers that it takes.
 ghost use mathlib.Core.Path.{_≡_};
 ghost use lib.ListN.{take};
 use libc::STDIN_FILENO;
 
 // One byte more than a recording may have: it tells an overlong one, and nothing past it is read.
 pub const READ: usize = 32769;
+
+// What a buffer has to have for the answers of any recording: 19 bytes for each of its 32,768, and 2,306 more.
+pub const ROOM: usize = 624898;
 
 // Where one read more leaves the input: so many bytes are there, or it has ended, or it could not be read.
 enum Input {

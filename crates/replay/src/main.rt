@@ -1,9 +1,7 @@
 // Replays the recording on standard input, from power-on, and writes the answers to standard output. Where it cannot read or write, a line on
 // standard error says so.
+use input::ROOM;
 use libc::STDOUT_FILENO;
-
-// What a buffer has to have for the answers of any recording.
-const ROOM: usize = 624898;
 
 // Replays a recording whole, and only then writes the answers.
 fn answer(recording: &[u8]) {

@@ -8,9 +8,6 @@ use events::Found;
 use libc::STDOUT_FILENO;
 use words::text;
 
-// The most bytes that a recording may have.
-const LONGEST: usize = 32768;
-
 // Spaces before a number, so that numbers of up to five digits end in one column.
 fn indent(n: usize) {
     if n < 10 {
@@ -63,7 +60,7 @@ fn show(recording: &[u8]) {
 fn whole(recording: &[u8]) {
     if recording.len() < 1 {
         text(b"an empty recording\n");
-    } else if recording.len() > LONGEST {
+    } else if recording.len() >= input::READ {
         text(b"more than 32768 bytes, which counts as a bad event\n");
     } else {
         show(recording);
