@@ -236,7 +236,7 @@ pub extern "C" fn trawl_write_telegram(telegram: &[u8], buffer: &mut [u8], lengt
 pub extern "C" fn trawl_time(byte: u8) -> u32
     ensures { λ r. ⌜ r ≡ timeOf byte ⌝ }
 {
-    tp20::time(byte)
+    times::time(byte)
 }
 
 // Replays a recording from power-on into a buffer; how many bytes it gives.

@@ -243,7 +243,7 @@ fn time(b: u8) {
     io::write_all(1, b"time ");
     io::print_hex(1, b as u64, 2);
     io::write_all(1, b" ->");
-    number(tp20::time(b));
+    number(times::time(b));
     io::write_all(1, b"\n");
 }
 

@@ -1,6 +1,6 @@
-// TP2.0 telegrams: a reader, a writer, the numbers of a telegram for a trace, and the time of a time byte.
+// TP2.0 telegrams: a reader, a writer, and the numbers of a telegram for a trace.
 ghost use mathlib.Core.Path.{_≡_};
-ghost use Rattle.telegram.specs.Telegram.{readAny, timeOf};
+ghost use Rattle.telegram.specs.Telegram.{readAny};
 ghost use Rattle.tp20.specs.Face.{told, answering, wrote, writing, said, naming};
 use codes::ERR_NULL_PARAMETER;
 use codes::STATUS_NOERROR;
@@ -8,7 +8,6 @@ use codes::STATUS_NOERROR;
 mod reading; // reading.rt: telegrams out of bytes
 mod writing; // writing.rt: telegrams into bytes
 mod naming; // naming.rt: telegrams as numbers
-mod times; // times.rt: the 256 time bytes
 mod fields; // fields.rt: what a field may be
 mod copying; // copying.rt: bytes from one place to another
 
@@ -139,11 +138,4 @@ pub fn name(opening: bool, identifier: u32, bytes: &[u8]) -> Named
         payload,
         len: answer.len,
     }
-}
-
-// A time byte in units of 0.1 ms. T1 = 0xFF means no time-out: its entry, 63,000, is for whoever uses T1 to pass over.
-pub fn time(b: u8) -> u32
-    ensures { λ r. ⌜ r ≡ timeOf b ⌝ }
-{
-    times::TIMES[b as usize]
 }

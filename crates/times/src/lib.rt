@@ -1,4 +1,8 @@
-// The 256 time bytes in units of 0.1 ms: unit times count.
+// The 256 time bytes of TP2.0 in units of 0.1 ms, kept as a table.
+ghost use mathlib.Core.Path.{_≡_};
+ghost use Rattle.telegram.specs.Telegram.{timeOf};
+
+// Unit times count, for every byte.
 pub const TIMES: [u32; 256] = [
     0,
     1,
@@ -257,3 +261,10 @@ pub const TIMES: [u32; 256] = [
     62000,
     63000,
 ];
+
+// A time byte in units of 0.1 ms. T1 = 0xFF means no time-out: its entry, 63,000, is for whoever uses T1 to pass over.
+pub fn time(b: u8) -> u32
+    ensures { λ r. ⌜ r ≡ timeOf b ⌝ }
+{
+    TIMES[b as usize]
+}

@@ -1,9 +1,9 @@
--- `tp20::time` meets its contract: the table is computed from the rule over all 256 bytes, and compared. Assumes nothing.
+-- `times::time` meets its contract: the table is computed from the rule over all 256 bytes, and compared. Assumes nothing.
 use borrow.Author.Needs.{needs}
 use Rattle.telegram.specs.Telegram.{timeOf}
 use Rattle.telegram.proofs.Tests.{tabled}
-use Rattle.tp20.proofs.time.Statement.{statement}
-use Rattle.tp20.proofs.time.Tie as tie
+use Rattle.times.proofs.time.Statement.{statement}
+use Rattle.times.proofs.time.Tie as tie
 
 returns : tie.Need-returns
 unfolding timeOf
