@@ -22,8 +22,8 @@ else
     cc=x86_64-linux-gnu-gcc cxx=x86_64-linux-gnu-g++
     # the kit has an emulator beside its compiler
     kit=$(dirname "$(dirname "$(readlink -f "$(command -v rt)")")")
-    run=$(find "$kit/on/$machine" -name qemu-x86_64 -type f 2>/dev/null | head -n 1)
-    if [ -z "$run" ]; then
+    run=$kit/on/$machine/toolchain/bin/qemu-x86_64
+    if [ ! -x "$run" ]; then
         install qemu-x86_64 qemu-user
         run=qemu-x86_64
     fi
