@@ -102,12 +102,22 @@ fn choice<'a>(waiting: &'a [u8], store: &'a [u8], i: usize) -> &'a [u8]
     &store[1..37]
 }
 
+// A record of 36 bytes over another, by way of a third: whether the two overlap then plays no part, and it is done in a few wide moves.
+fn copy_record(d: &mut [u8], s: &[u8])
+    requires { ⌜ (length (now d) ≡ 36) × (length (now s) ≡ 36) ⌝ }
+    ensures { λ u. ⌜ now (d .exit) ≡ now (s .entry) ⌝ }
+{
+    let mut between = [0u8; 36];
+    octets::copy(&mut between, s);
+    octets::copy(d, &between);
+}
+
 // A record of 36 bytes is in flight.
 fn launch(flight: &mut [u8], m: &[u8])
     requires { ⌜ (length (now flight) ≡ 37) × (length (now m) ≡ 36) ⌝ }
     ensures { λ u. ⌜ now (flight .exit) ≡ 1 ∷ now (m .entry) ⌝ }
 {
-    octets::copy(&mut flight[1..37], m);
+    copy_record(&mut flight[1..37], m);
     flight[0] = 1;
 }
 
@@ -143,7 +153,7 @@ fn take_next(r: &mut [u8], buffer: &mut [u8]) -> u32
     if (i >= PLACES) & (r[WRITTEN] == 0) {
         return codes::ERR_BUFFER_EMPTY;
     }
-    octets::copy(
+    copy_record(
         &mut buffer[0..CELL],
         choice(&r[PERIODICS..WRITTEN], &r[WRITTEN..FLIGHT], i),
     );
@@ -163,7 +173,7 @@ pub fn take(r: &mut [u8], buffer: &mut [u8]) -> u32
     if r[FLIGHT] == 0 {
         return take_next(r, buffer);
     }
-    octets::copy(&mut buffer[0..CELL], &r[FLYING..QUEUE]);
+    copy_record(&mut buffer[0..CELL], &r[FLYING..QUEUE]);
     codes::STATUS_NOERROR
 }
 

@@ -8,7 +8,7 @@ use Rattle.sending.proofs.launch.Statement.{statement}
 use Rattle.sending.proofs.launch.Tie as tie
 
 returns : tie.Need-returns
-returns c = let start = c .before .before .before .before .before .before in marked 36 (start .args .flight .now) _ (start .pre .0) ∙ ap {B = List ℕ} (λ (s : List ℕ). 1 ∷ s) (c .before .before .copy .ensures)
+returns c = let start = c .before .before .before .before .before .before in marked 36 (start .args .flight .now) _ (start .pre .0) ∙ ap {B = List ℕ} (λ (s : List ℕ). 1 ∷ s) (c .before .before .copy-record .ensures)
 
 pub launch-spec : {M : Type 1} → statement M
 launch-spec =

@@ -13,7 +13,7 @@ returns-3 c =
     let flying = c .before .before .before .before .before .before in
     let long = flying .before .before in
     let start = long .before .before .before in
-    take-again (start .pre) t (start .args .buffer .now) (long .if1 .left) (flying .if2 .left) (c .before .before .copy .ensures)
+    take-again (start .pre) t (start .args .buffer .now) (long .if1 .left) (flying .if2 .left) (c .before .before .copy-record .ensures)
 
 pub take-spec : {M : Type 1} → statement M
 take-spec =

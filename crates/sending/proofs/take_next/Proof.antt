@@ -37,7 +37,7 @@ returns-2 c =
     let found = looked .before .before in
     let start = found .before .before .before .before .before in
     take-chosen (start .pre .0) (found .first-pending .ensures) (something-left (found .first-pending .result) _ (looked .if1 .left)) t (start .args .buffer .now)
-    (start .pre .2) (start .pre .1) (copied .before .choice .ensures) (copied .copy .ensures) (freed .free .ensures) (c .before .before .launch .ensures)
+    (start .pre .2) (start .pre .1) (copied .before .choice .ensures) (copied .copy-record .ensures) (freed .free .ensures) (c .before .before .launch .ensures)
 
 pub take-next-spec : {M : Type 1} → statement M
 take-next-spec =
