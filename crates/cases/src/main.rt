@@ -1,101 +1,102 @@
 // Replays recordings whose answers were worked out by hand from the scope, before any program ran them, and prints for each whether the
-// answers are as expected. The last line says how many are.
-mod bounds;
-mod connecting;
-mod matching;
-mod named;
-mod queueing;
-mod starting;
-mod taking;
-mod writing;
+// answers are as expected. The last line says how many are. The recording of a case is the file NAME.rec and its answers NAME.out, both in
+// the folder that the program is run in. They lie in data/, where INDEX.md says what each case shows; `./replay --cases` runs it there.
+mod difference;
+mod files;
 
-use input::ROOM;
+ghost use Prim.Native.Nat.{_≤_};
+ghost use lib.ListN.{length};
 use libc::STDOUT_FILENO;
 
-// How many cases there are.
-const CASES: u32 = 33;
-
-// The first place at which two slices differ, or the shorter one's end.
-fn place(a: &[u8], b: &[u8]) -> usize {
-    let mut i = 0;
-    while i < a.len() && i < b.len() {
-        if a[i] != b[i] {
-            return i;
-        }
-        i += 1;
-    }
-    i
-}
-
-// A byte in hexadecimal.
-fn hex(byte: u8) {
-    io::print_hex(STDOUT_FILENO, byte as u64, 2);
-}
-
-// The byte at a place, or `none` past the end.
-fn byte(bytes: &[u8], at: usize) {
-    if at < bytes.len() {
-        hex(bytes[at]);
-    } else {
-        io::write_all(STDOUT_FILENO, b"none");
-    }
-}
-
-// What differs: both lengths, the first place that differs, and both bytes there.
-fn difference(answers: &[u8], expected: &[u8]) {
-    let at = place(answers, expected);
-    io::write_all(STDOUT_FILENO, b": ");
-    io::print_decimal(STDOUT_FILENO, answers.len() as u64);
-    io::write_all(STDOUT_FILENO, b" bytes and not ");
-    io::print_decimal(STDOUT_FILENO, expected.len() as u64);
-    io::write_all(STDOUT_FILENO, b"; at byte ");
-    io::print_decimal(STDOUT_FILENO, at as u64);
-    io::write_all(STDOUT_FILENO, b" ");
-    byte(answers, at);
-    io::write_all(STDOUT_FILENO, b" and not ");
-    byte(expected, at);
-    io::write_all(STDOUT_FILENO, b"\n");
-}
-
-// Replays a recording, prints whether its answers are as expected or what differs, and counts it where they are.
-fn case(name: &[u8], recording: &[u8], expected: &[u8], out: &mut [u8; ROOM], agree: &mut u32) {
-    io::write_all(STDOUT_FILENO, name);
-    let played = recording::replay(recording, out);
-    let answers = input::first(out, played.length);
+// Replays a recording, prints whether its answers are as expected or what differs, and says whether they are.
+fn replays_to(recording: &[u8], expected: &[u8]) -> bool {
+    let mut out = input::room();
+    let played = recording::replay(recording, &mut out);
+    let answers = input::first(&out, played.length);
     if check::same(answers, expected) {
         io::write_all(STDOUT_FILENO, b": as expected\n");
-        *agree = std::num::wrapping_add_u32(*agree, 1);
-    } else {
-        difference(answers, expected);
+        return true;
+    }
+    difference::print(answers, expected);
+    false
+}
+
+// Runs the case of a name, prints what came of it, and says whether its answers are as expected.
+fn agrees(name: &[u8]) -> bool {
+    io::write_all(STDOUT_FILENO, name);
+    let mut recording = [0u8; input::READ];
+    let mut size = 0;
+    if !files::read(name, b".rec", &mut recording, &mut size) {
+        return false;
+    }
+    let mut expected = input::room();
+    let mut length = 0;
+    if !files::read(name, b".out", &mut expected, &mut length) {
+        return false;
+    }
+    replays_to(
+        input::first(&recording, size),
+        input::first(&expected, length),
+    )
+}
+
+// How many cases agree, and of how many. Where the output failed at some line, it fails at this one too, and that is said; so is that some
+// case does not agree.
+fn count(agree: usize, cases: usize) {
+    io::print_decimal(STDOUT_FILENO, agree as u64);
+    io::write_all(STDOUT_FILENO, b" of ");
+    io::print_decimal(STDOUT_FILENO, cases as u64);
+    if !io::write_all(STDOUT_FILENO, b" agree\n") {
+        os::fail(b"cases: standard output");
+    }
+    if agree < cases {
+        io::write_all(libc::STDERR_FILENO, b"cases: not all agree\n");
     }
 }
 
-// The longest recording, 32,768 events that close, and one byte more.
-fn longest(out: &mut [u8; ROOM], agree: &mut u32) {
-    case(b"size-32768", &[3; 32768], &[0; 32768], out, agree);
-    case(b"size-32769", &[3; 32769], &[0xFF, 0x01], out, agree);
+// Where the name that starts at a place ends: at the next space, or at the end of all.
+fn name_end(names: &[u8], at: usize) -> usize
+    requires { ⌜ at ≤ length (now names) ⌝ }
+    ensures { λ r. ⌜ (at ≤ r) × (r ≤ length (now (names .entry))) ⌝ }
+{
+    let mut end = at;
+    while end < names.len() {
+        if names[end] == b' ' {
+            return end;
+        }
+        end += 1;
+    }
+    end
 }
 
-// How many cases agree, and of how many.
-fn count(agree: u32) {
-    io::print_decimal(STDOUT_FILENO, agree as u64);
-    io::write_all(STDOUT_FILENO, b" of ");
-    io::print_decimal(STDOUT_FILENO, CASES as u64);
-    io::write_all(STDOUT_FILENO, b" agree\n");
-}
-
-// Runs every case.
-fn main() {
-    let mut out = [0u8; ROOM];
+// Runs the cases whose names stand in a row with a space between them, and counts them.
+fn run(names: &[u8]) {
+    let mut cases = 0;
     let mut agree = 0;
-    named::run(&mut out, &mut agree);
-    bounds::run(&mut out, &mut agree);
-    connecting::run(&mut out, &mut agree);
-    starting::run(&mut out, &mut agree);
-    matching::run(&mut out, &mut agree);
-    queueing::run(&mut out, &mut agree);
-    writing::run(&mut out, &mut agree);
-    taking::run(&mut out, &mut agree);
-    longest(&mut out, &mut agree);
-    count(agree);
+    let mut at = 0;
+    while at < names.len() {
+        let end = name_end(names, at);
+        if agrees(&names[at..end]) {
+            agree += 1;
+        }
+        cases += 1;
+        at = end + 1;
+    }
+    count(agree, cases);
+}
+
+// Runs every case: those that the scope names, then those of recordings as such, connecting, starting filters, matching, the queue, writing,
+// taking, and the longest recordings.
+fn main() {
+    run(
+        b"whole-example lost-full-read periodic-case \
+        empty bad-cut-record bad-event-17 bad-long-form bad-number-2-32 n-64 n-65-read \
+        connect-four connect-order configuration channel-0x02 \
+        filter-numbers filter-order filter-widths \
+        filter-block filter-pattern-unmasked filter-short-frame frame-order width-800 \
+        read-codes lost-read-of-0 loopback four-channels \
+        write-counts write-bad-without-room \
+        periodic-from-start take-order clear-kinds \
+        size-32768 size-32769",
+    );
 }

@@ -1,7 +1,6 @@
-// A recording from standard input, and the buffers that it takes.
+// A recording from standard input or a file, and room for its answers.
 ghost use mathlib.Core.Path.{_≡_};
-ghost use lib.ListN.{take};
-use libc::STDIN_FILENO;
+ghost use lib.ListN.{length, take};
 
 // One byte more than a recording may have: it tells an overlong one, and nothing past it is read.
 pub const READ: usize = 32769;
@@ -17,11 +16,11 @@ enum Input {
 }
 
 // Reads once behind the first `at` bytes. A read that a signal interrupted has read nothing, and can be tried again.
-fn read_more(buffer: &mut [u8], at: usize) -> Input {
+fn read_more(fd: i32, buffer: &mut [u8], at: usize) -> Input {
     if at >= buffer.len() {
         return Input::Ended;
     }
-    let got = libc::read(STDIN_FILENO, &mut buffer[at..]);
+    let got = libc::read(fd, &mut buffer[at..]);
     if got > 0 {
         let n = io::count(got, &buffer[at..]);
         return Input::More(at + n);
@@ -35,11 +34,11 @@ fn read_more(buffer: &mut [u8], at: usize) -> Input {
     Input::Failed
 }
 
-// Reads until the input ends or the buffer is full, and says whether it could. `size`, 0 before, is how many bytes came.
-pub fn read_all(buffer: &mut [u8], size: &mut usize) -> bool {
+// Reads a descriptor until its input ends or the buffer is full, and says whether it could. `size`, 0 before, is how many bytes came.
+pub fn read_all(fd: i32, buffer: &mut [u8], size: &mut usize) -> bool {
     let mut turns = u64::MAX;
     while turns > 0 {
-        match read_more(buffer, *size) {
+        match read_more(fd, buffer, *size) {
             Input::More(n) => *size = n,
             Input::Ended => return true,
             Input::Failed => return false,
@@ -57,4 +56,11 @@ pub fn first(bytes: &[u8], n: usize) -> &[u8]
         return &bytes[..n];
     }
     bytes
+}
+
+// Room for the answers of any recording.
+pub fn room() -> [u8; ROOM]
+    ensures { λ r. ⌜ 624898 ≡ length r ⌝ }
+{
+    [0; ROOM]
 }

@@ -1,11 +1,10 @@
 // Replays the recording on standard input, from power-on, and writes the answers to standard output. Where it cannot read or write, a line on
 // standard error says so.
-use input::ROOM;
 use libc::STDOUT_FILENO;
 
 // Replays a recording whole, and only then writes the answers.
 fn answer(recording: &[u8]) {
-    let mut out = [0u8; ROOM];
+    let mut out = input::room();
     let played = recording::replay(recording, &mut out);
     if !io::write_all(STDOUT_FILENO, input::first(&out, played.length)) {
         os::fail(b"replay: standard output");
@@ -16,7 +15,7 @@ fn answer(recording: &[u8]) {
 fn main() {
     let mut buffer = [0u8; input::READ];
     let mut size = 0;
-    if !input::read_all(&mut buffer, &mut size) {
+    if !input::read_all(libc::STDIN_FILENO, &mut buffer, &mut size) {
         os::fail(b"replay: standard input");
         return;
     }

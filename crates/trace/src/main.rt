@@ -78,7 +78,7 @@ fn end() {
 fn main() {
     let mut buffer = [0u8; input::READ];
     let mut size = 0;
-    if !input::read_all(&mut buffer, &mut size) {
+    if !input::read_all(libc::STDIN_FILENO, &mut buffer, &mut size) {
         os::fail(b"trace: standard input");
         return;
     }

@@ -6,10 +6,10 @@ use Rattle.input.proofs.read_all.Statement.{statement}
 use Rattle.input.proofs.read_all.Tie as tie
 
 abbrev Inv-loop : tie.InvT-loop
-Inv-loop buffer₀ size₀ turns₀ buffer size turns = length buffer ≡ length buffer₀
+Inv-loop fd buffer₀ size₀ turns₀ buffer size turns = length buffer ≡ length buffer₀
 
 abbrev μ-loop : tie.MeasureT-loop
-μ-loop buffer₀ size₀ turns₀ buffer size turns = turns
+μ-loop fd buffer₀ size₀ turns₀ buffer size turns = turns
 
 pub read-all-spec : {M : Type 1} → statement M
 read-all-spec =

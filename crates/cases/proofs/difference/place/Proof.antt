@@ -1,9 +1,9 @@
--- `cases::place` is safe and ends. Assumes nothing.
+-- `cases::difference::place` is safe and ends. Assumes nothing.
 use Prim.Native.Nat.{_-_}
 use lib.ListN.{length}
 use borrow.Author.Needs.{needs}
-use Rattle.cases.proofs.place.Statement.{statement}
-use Rattle.cases.proofs.place.Tie as tie
+use Rattle.cases.proofs.difference.place.Statement.{statement}
+use Rattle.cases.proofs.difference.place.Tie as tie
 
 abbrev Inv-loop : tie.InvT-loop
 Inv-loop a b i₀ i = Unit {0}
