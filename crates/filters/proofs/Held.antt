@@ -12,7 +12,7 @@ use borrow.Author.Tests.{eq-eqb, ne-eqb}
 use mir.Val.{boolByte}
 use borrow.Rule.Slice.PartMut.{putMid}
 use Rattle.codec.specs.Plain.{if_then_else_, within, all, isByte, allZero}
-use Rattle.codec.specs.Code.{Code, byte, via, such, mark, many, beside, eachVia}
+use Rattle.codec.specs.Code.{byte, via, such, mark, many, eachVia}
 use Rattle.codec.proofs.Tests.{left, right, true-T}
 use Rattle.codec.proofs.Lawful.{byte-lawful, mark-lawful, mark-ok}
 use Rattle.codec.proofs.Many.{many-make}
@@ -23,21 +23,12 @@ use Rattle.machine.specs.Filter.{Slots, Filter, taken, hits, passes}
 use Rattle.machine.proofs.Slots.{any-empty}
 use Rattle.layout.specs.Record.{row}
 use Rattle.layout.specs.Memory.{FilterRow, filterParts, filterBack, filterFits, filterColumns, filters}
-use Rattle.layout.proofs.Memory.{row-lawful, bytes-put, filter-columns-lawful, filters-lawful, filter-fits}
+use Rattle.layout.proofs.Memory.{Rows2, Rows3, Rows4, row-lawful, bytes-put, filter-columns-lawful, filters-lawful, filter-fits}
 use Rattle.layout.proofs.Sizes.{filters-size}
 use Rattle.filters.specs.Part.{FilterPart, listed, tenRows, filterAt, filtersIn}
 use Rattle.filters.proofs.Fill.{listed-long, listed-at}
 
 -- ---- the five columns
-
-abbrev Rows2 : Code (List (List ℕ × List ℕ))
-Rows2 = beside 10 row (many 10 row)
-
-abbrev Rows3 : Code (List (ℕ × (List ℕ × List ℕ)))
-Rows3 = beside 10 byte Rows2
-
-abbrev Rows4 : Code (List (Bool × (ℕ × (List ℕ × List ℕ))))
-Rows4 = beside 10 mark Rows3
 
 pub types-cell : Cell filterColumns byte 0 (λ p. p .0) (λ k p. (k, p .1))
 unfolding filterColumns

@@ -1,5 +1,5 @@
 -- The filters in the region of an open channel: the part that is lent, and what each call promises. Assumes nothing.
-use mathlib.Core.Path.{_≡_, refl, sym, ap, _∙_}
+use mathlib.Core.Path.{_≡_, sym, ap, _∙_}
 use Prim.Native.Nat.{ℕ, _+_, _-_, _≤_, _<_}
 use native.Mathlib.Omega.{arith}
 use mathlib.Core.Bool.{Bool, true, false}
@@ -10,16 +10,13 @@ use lib.Seq.{getD-take, getD-drop}
 use borrow.Rule.Slice.PartMut.{putMid}
 use Rattle.codec.specs.Plain.{within}
 use Rattle.codec.specs.Word.{wordAt}
-use Rattle.codec.specs.Code.{byte, via, such, mark, both, many, beside, eachVia}
-use Rattle.codec.proofs.Tests.{true-T}
+use Rattle.codec.proofs.Tests.{true-T, within-low, within-high}
 use Rattle.machine.specs.Codes.{threeRates}
 use Rattle.machine.specs.Filter.{Slots, Filter, free, taken, has}
 use Rattle.machine.proofs.Slots.{has-place, has-none}
 use Rattle.machine.specs.Channel.{filterCode, filterOf, startFilter, stopFilter, says, Outcome, withFilters}
-use Rattle.layout.specs.Record.{row}
-use Rattle.layout.specs.Memory.{filterColumns, filters}
+use Rattle.layout.specs.Memory.{filters}
 use Rattle.layout.specs.Promise.{gives, Opened, callOutcome}
-use Rattle.layout.proofs.Held.{within-low, within-high}
 use Rattle.layout.proofs.Places.{fl}
 use Rattle.layout.proofs.Region.{openOf, word-of, stays, moves, flags-part, filters-part}
 use Rattle.filters.specs.Part.{FilterPart}
@@ -79,7 +76,7 @@ module _ (r : List ℕ) (f : Opened r) where
         here = let k = place-of number w in sym (getD-take 270 (drop 10 r) i 0 (omega arith) ∙ getD-drop 10 r i 0)
 
         held-here : (b : Bool) → ((flags : ℕ) → taken (getD (filters flags .get (take 270 (drop 10 r))) i none) ≡ b) → has (openOf r .filters) number ≡ b
-        held-here b e = has-place (openOf r .filters) number (place-of number w .0) ∙ ap (λ (s : Slots Filter). taken (getD s i none)) (sym (held-is 0)) ∙ e 0
+        held-here b e = has-place (openOf r .filters) number i (omega (arith, place-of number w .0)) ∙ ap (λ (s : Slots Filter). taken (getD s i none)) (sym (held-is 0)) ∙ e 0
 
         pub not-held : getD r (10 + i) 0 ≡ 0 → gives 0x16 0 [] r ≡ callOutcome threeRates t r (stopFilter number)
         not-held e = refused (held-here false (is-empty (take 270 (drop 10 r)) part-lent i (place-of number w .1) (sym here ∙ e)))

@@ -10,13 +10,13 @@ use lib.ListN.{length, set, take, drop}
 use borrow.Author.Tests.{lt-ltb, le-ltb}
 use Rattle.codec.specs.Plain.{if_then_else_, within}
 use Rattle.codec.specs.Word.{wordAt}
+use Rattle.codec.proofs.Tests.{within-low, within-high}
 use Rattle.machine.specs.Codes.{codeOf}
 use Rattle.machine.specs.Message.{bit, protocolOf, sizeOf, txFlagsOf, wideOf, dataOf, twelve, takes}
 use Rattle.machine.specs.Filter.{free, has}
 use Rattle.machine.specs.Channel.{Open, opened, withFilters, startFilter, stopFilter, says, unless, doneWith, shorter, filterCode, filterOf, onStartFilter, onStopFilter, onOpen}
 use Rattle.layout.specs.Memory.{typeOf, filterParts}
 use Rattle.layout.proofs.Tables.{failed, yes, neither}
-use Rattle.layout.proofs.Held.{within-low, within-high}
 use Rattle.filters.specs.Part.{Checked}
 
 -- ---- a start's checks, those of one code together

@@ -2,20 +2,20 @@
 use mathlib.Core.Path.{_≡_, refl, sym, ap, ap₂, _∙_}
 use Prim.Native.Nat.{ℕ, _+_, _-_, _≤_, _<_}
 use native.Mathlib.Omega.{arith}
-use mathlib.Core.Bool.{Bool, true, false, _&&_}
-use mathlib.Core.List.{List, [], _∷_, _++_}
+use mathlib.Core.Bool.{Bool, true, false}
+use mathlib.Core.List.{List, _++_}
 use lib.ListN.{length, take, drop}
-use lib.Dec.{eqb, ltb}
+use lib.Dec.{eqb}
 use borrow.Author.Tests.{lt-ltb, le-ltb}
 use borrow.Rule.Slice.PartMut.{putMid}
-use Rattle.codec.specs.Plain.{if_then_else_, zeros}
+use Rattle.codec.specs.Plain.{zeros}
 use Rattle.codec.specs.Word.{wordAt}
 use Rattle.codec.proofs.Lists.{drop-zeros}
 use Rattle.filters.proofs.Frame.{padded}
 use Rattle.machine.specs.Codes.{codeOf}
 use Rattle.machine.specs.Message.{idBytes, idLimit, takes, twelve, widthFlag, received}
 use Rattle.machine.specs.Filter.{Slots, Filter, passes}
-use Rattle.machine.specs.Channel.{Chan, opened, Open, arrive, frameCode, offered}
+use Rattle.machine.specs.Channel.{Chan, frameCode, offered}
 use Rattle.layout.specs.Memory.{filters, region}
 use Rattle.layout.specs.Promise.{Opened}
 use Rattle.layout.proofs.Region.{openOf, kept, is-open, word-of, flags-part, filters-part}

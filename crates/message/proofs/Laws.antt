@@ -2,19 +2,20 @@
 use mathlib.Core.Path.{_≡_, refl, sym, ap, ap₂, _∙_}
 use Prim.Native.Nat.{ℕ, _+_, _-_, _≤_, _<_}
 use native.Mathlib.Omega.{arith}
-use mathlib.Core.Bool.{Bool, true, false, not, _&&_}
+use mathlib.Core.Bool.{Bool, not}
 use mathlib.Core.List.{List, [], _++_, append-nil}
 use lib.ListN.{length, getD, take, drop, length-append, length-drop, drop-of-length-le}
 use lib.Seq.{take-at, drop-at, drop-drop, getD-take, length-take-le}
-use lib.Dec.{T, eqb, leb, ltb, leb→le}
-use borrow.Author.Tests.{le-leb, lt-leb}
+use lib.Dec.{eqb, ltb}
 use borrow.Rule.Slice.PartMut.{putMid, midOf}
 use Rattle.codec.specs.Plain.{if_then_else_, within, zeros}
 use Rattle.codec.specs.Word.{word, wordAt}
-use Rattle.codec.proofs.Tests.{left, right, true-T}
+use Rattle.codec.proofs.Tests.{within-low, within-high}
+use Rattle.codec.proofs.Lists.{part-long}
 use Rattle.machine.specs.Codes.{codeOf}
 use Rattle.machine.specs.Message.{takes, idOf, idLimit, idBytes, widthFlag, Rec, twelve, shown, protocolOf, sizeOf, wideOf, dataOf, messageCode, clean, received}
 use Rattle.layout.specs.Record.{rec36}
+use Rattle.layout.proofs.Tables.{failed, yes}
 use Rattle.layout.proofs.Memory.{shown-is}
 use Rattle.message.specs.Cell.{numbers, padded}
 
@@ -29,30 +30,11 @@ pub checks : (flags : ℕ) (m : List ℕ) {a b c d : Bool} → eqb (wordAt 0 m) 
 unfolding messageCode codeOf protocolOf sizeOf
 checks flags m p q r s = sym (λ i. coded (p i) (q i) (r i) (s i))
 
-pub too-small : (n : ℕ) → n < 4 → within 4 12 n ≡ false
-unfolding within
-too-small n h = rw (lt-leb 4 n h)
-
-pub too-large : (n : ℕ) → 4 ≤ n → 12 < n → within 4 12 n ≡ false
-unfolding within
-too-large n g h = rw (le-leb 4 n g) (rw (lt-leb n 12 h))
-
-pub good-size : (n : ℕ) → 4 ≤ n → n ≤ 12 → within 4 12 n ≡ true
-unfolding within
-good-size n g h = rw (le-leb 4 n g) (rw (le-leb n 12 h))
-
 -- the size of a message without a code
-no-code : (a b c d : Bool) → coded a b c d ≡ 0 → b ≡ true
-no-code false b c d h = absurd (omega arith)
-no-code true false c d h = absurd (omega arith)
-no-code true true c d h = refl
-
 pub size-of-good : (flags : ℕ) (m : List ℕ) → messageCode flags m ≡ 0 → (4 ≤ sizeOf m) × (sizeOf m ≤ 12)
-unfolding sizeOf within
+unfolding messageCode
 size-of-good flags m h =
-    let n : ℕ = wordAt 16 m in
-    let t : T (leb 4 n && leb n 12) = true-T (leb 4 n && leb n 12) (no-code (eqb (wordAt 0 m) 5) (within 4 12 n) (takes flags (wideOf m)) (ltb (idLimit (wideOf m)) (idOf (dataOf m))) (checks flags m refl refl refl refl ∙ h)) in
-    (leb→le 4 n (left (leb 4 n) (leb n 12) t), leb→le n 12 (right (leb 4 n) (leb n 12) t))
+    let t = yes (within 4 12 (sizeOf m)) (failed _ tt h .1 .0) in (within-low 4 12 (sizeOf m) t, within-high 4 12 (sizeOf m) t)
 
 pub id-of-data : (m : List ℕ) → 4 ≤ wordAt 16 m → idOf (dataOf m) ≡ idOf (drop 24 m)
 unfolding idOf dataOf sizeOf
@@ -131,19 +113,16 @@ record-put cell ys zs r h y z =
 
 -- ---- the clean record of a message
 
-data-part : (m : List ℕ) (size : ℕ) → 36 ≤ length m → size ≤ 12 → length (take (24 + size - 24) (drop 24 m)) ≡ size
-data-part m size h s = length-take-le (24 + size - 24) (drop 24 m) (omega (arith, length-drop 24 m)) ∙ omega arith
-
 -- the data fits into what is left of the cell
 pub data-fits : (cell ys m : List ℕ) (tx size : ℕ) → length cell ≡ 36 → 36 ≤ length m → size ≤ 12 → ys ≡ numbers 0 tx 0 size → length (take (24 + size - 24) (drop 24 m)) ≤ length (midOf 24 12 (ys ++ drop 24 cell))
-data-fits cell ys m tx size h lm s y = omega (arith, data-part m size lm s, mid-long 24 12 cell ys h (ap length y ∙ numbers-long 0 tx 0 size))
+data-fits cell ys m tx size h lm s y = omega (arith, part-long 24 size m (omega arith), mid-long 24 12 cell ys h (ap length y ∙ numbers-long 0 tx 0 size))
 
 pub clean-put : (cell ys zs m : List ℕ) (tx size : ℕ) → length cell ≡ 36 → 36 ≤ length m → tx ≡ widthFlag (wideOf m) → size ≡ wordAt 16 m → size ≤ 12 → ys ≡ numbers 0 tx 0 size
     → zs ≡ padded (length (midOf 24 12 (ys ++ drop 24 cell))) (take (24 + size - 24) (drop 24 m)) → putMid 24 12 (ys ++ drop 24 cell) zs ≡ rec36 .put (clean m)
 unfolding clean dataOf sizeOf
 clean-put cell ys zs m tx size h lm et es s y z =
     let d : take (24 + size - 24) (drop 24 m) ≡ take (wordAt 16 m) (drop 24 m) = let e : 24 + size - 24 ≡ wordAt 16 m = omega arith in ap (λ (k : ℕ). take k (drop 24 m)) e in
-    let n : size ≡ length (take (wordAt 16 m) (drop 24 m)) = sym (data-part m size lm s) ∙ ap length d in
+    let n : size ≡ length (take (wordAt 16 m) (drop 24 m)) = sym (part-long 24 size m (omega arith)) ∙ ap length d in
     let l : length ys ≡ 24 = ap length y ∙ numbers-long 0 tx 0 size in
     record-put cell ys zs (clean m) h (y ∙ ap₂ (λ (t k : ℕ). numbers 0 t 0 k) et n) (z ∙ ap₂ (λ (k : ℕ) (b : List ℕ). padded k b) (mid-long 24 12 cell ys h l) d)
 

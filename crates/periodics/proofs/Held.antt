@@ -27,8 +27,8 @@ use Rattle.layout.specs.Memory.{PeriodicRow, periodicParts, periodicBack, perio
 use Rattle.layout.proofs.Memory.{out-lawful, out-shows, periodic-columns-lawful, periodics-lawful}
 use Rattle.layout.proofs.Places.{periodics-same}
 use Rattle.layout.proofs.Sizes.{out-size, periodics-size}
-use Rattle.layout.proofs.Rows.{rows-set}
-use Rattle.layout.proofs.Held.{word-ok, periodicPlace, periodics-rows, no-periodic, PeriodicFits, periodic-make, periodic-sound}
+use Rattle.codec.proofs.Rows.{rows-set}
+use Rattle.layout.proofs.Held.{word-ok, periodicPlace, periodics-rows, no-periodic, periodic-sound}
 use Rattle.layout.proofs.Calls.{clean-ok}
 use Rattle.periodics.specs.Part.{PeriodicPart, timed, isPending, firstPending, calmSlot, changed}
 use Rattle.periodics.proofs.Next.{first-is}
@@ -107,14 +107,6 @@ module _ (flags : ℕ) (ps : Slots Periodic) (t : T (periodics flags .ok ps)) (i
   pub changed-ok : (f : Option Periodic → Option Periodic) → ((x : Option Periodic) → T (periodicPlace flags x) → T (periodicPlace flags (f x))) → T (periodics flags .ok (changed f i ps))
   unfolding changed
   changed-ok f k = rows-set (periodics-rows flags) ps i (f (getD ps i none)) t (k (getD ps i none) place-ok)
-
-  pub sound-at : (p : Periodic) → getD ps i none ≡ some p → PeriodicFits flags p
-  sound-at p e = periodic-sound flags p (subst (λ x. T (periodicPlace flags x)) e place-ok)
-
-pub calm-ok : (flags : ℕ) (x : Option Periodic) → T (periodicPlace flags x) → T (periodicPlace flags (calmSlot x))
-unfolding calmSlot calm
-calm-ok flags none t = t
-calm-ok flags (some p) t = let s = periodic-sound flags p t in periodic-make flags _ (search)
 
 pub changed-calm : (ps : Slots Periodic) (i : ℕ) (p : Periodic) → getD ps i none ≡ some p → changed calmSlot i ps ≡ set ps i (some (calm p))
 unfolding changed calmSlot

@@ -1,31 +1,31 @@
 -- What the calls on periodics do to the bytes of a region is what the machine does to the channel. Assumes nothing.
 use mathlib.Core.Path.{_≡_, refl, sym, ap, _∙_, subst}
 use Prim.Native.Nat.{ℕ, zero, suc, _+_, _*_, _-_, _≤_, _<_}
-use native.Mathlib.Numerals.{add-one}
 use native.Mathlib.Omega.{arith}
-use mathlib.Core.Bool.{Bool, true, false, not}
+use mathlib.Core.Bool.{Bool, true, false, not, _&&_}
 use mathlib.Core.Option.{none, some}
 use mathlib.Core.List.{List, [], _∷_, map}
-use lib.ListN.{length, getD, set, take, drop, List·getD-eq-default}
+use lib.ListN.{length, getD, set, take, drop}
 use lib.Seq.{take-take, drop-drop}
-use lib.Dec.{T, eqb, leb}
-use borrow.Author.Tests.{le-leb, lt-leb, le-ltb, lt-ltb, ltb-false, ne-eqb}
+use lib.Dec.{T, eqb, leb, eqb→eq, nltb→le}
+use borrow.Author.Tests.{le-leb, lt-leb, le-ltb, lt-ltb, ne-eqb}
 use borrow.Rule.Slice.PartMut.{putMid, midOf, put-same}
 use Rattle.codec.specs.Plain.{within, allZero}
 use Rattle.codec.specs.Word.{wordAt}
 use Rattle.codec.specs.Code.{via, slot, getSlot, validSlot}
-use Rattle.codec.proofs.Tests.{true-T}
+use Rattle.codec.proofs.Tests.{join, true-T, below, above, between}
 use Rattle.codec.proofs.Lists.{all-take, all-drop}
 use Rattle.machine.specs.Codes.{codeOf, threeRates}
-use Rattle.machine.specs.Message.{protocolOf, sizeOf, messageCode}
+use Rattle.machine.specs.Message.{messageCode}
 use Rattle.machine.specs.Filter.{Slots, free, taken, has}
+use Rattle.machine.proofs.Slots.{has-place, has-none}
 use Rattle.machine.specs.Channel.{Periodic, Chan, closed, withSending, startPeriodic, stopPeriodic, unless, doneWith, shorter, periodicCode, periodicOf, onStartPeriodic, onStopPeriodic, laterSlot, onAdvance, onOpen}
 use Rattle.layout.specs.Memory.{periodics, openPart, chanBack, region}
 use Rattle.layout.specs.Promise.{Opened, gives, callOutcome}
 use Rattle.layout.proofs.Memory.{region-lawful}
 use Rattle.layout.proofs.Sizes.{region-size}
+use Rattle.layout.proofs.Tables.{Telling, failed, more-tests, no-more-tests, own-code, yes}
 use Rattle.layout.proofs.Places.{fl}
-use Rattle.layout.proofs.Held.{within-low, within-high}
 use Rattle.layout.proofs.Region.{openOf, is-open, moves, stays, word-of, flags-part, periodics-part}
 use Rattle.periodics.specs.Part.{PeriodicPart, startCode}
 use Rattle.periodics.proofs.Held.{ten-held, heldAt, empty-at, taken-at}
@@ -105,21 +105,6 @@ module _ (r : List ℕ) (long : length r ≡ 2498) (v : T (region .valid r)) (us
       go (suc zero) z t = still-open (true-T _ e) z
       go (suc (suc k)) z t = absurd t
 
--- ---- a number between two
-
-module _ (from to n : ℕ) where
-  below : n < from → within from to n ≡ false
-  unfolding within
-  below h = rw (lt-leb from n h)
-
-  above : from ≤ n → to < n → within from to n ≡ false
-  unfolding within
-  above h g = rw (le-leb from n h, lt-leb n to g)
-
-  between : from ≤ n → n ≤ to → within from to n ≡ true
-  unfolding within
-  between h g = rw (le-leb from n h, le-leb n to g)
-
 -- ---- start: the tests that look at no place
 
 last-test : (k : ℕ) → k ≡ codeOf ((not (eqb k 0), k) ∷ [])
@@ -146,48 +131,23 @@ module _ (flags : ℕ) (message : List ℕ) (interval : ℕ) where
 
   pub start-late : 36 ≤ length message → 5 ≤ interval → 65535 < interval → 0x0B ≡ startCode flags message interval
   unfolding codeOf
-  start-late h l g = sym (tests (long-enough h) (above 5 65535 interval l g) refl)
+  start-late h l g = sym (tests (long-enough h) (above 5 65535 interval g) refl)
 
   pub start-message : 36 ≤ length message → 5 ≤ interval → interval ≤ 65535 → messageCode flags message ≡ startCode flags message interval
   unfolding codeOf
   start-message h l g = last-test (messageCode flags message) ∙ sym (tests (long-enough h) (between 5 65535 interval l g) refl)
 
--- where three tests, of which the last gives its own code, give none; and what a test behind them adds
-module _ (a b : Bool) (k : ℕ) where
-  abbrev three : List (Bool × ℕ) → ℕ
-  three more = codeOf ((a, 0x04) ∷ (b, 0x0B) ∷ (not (eqb k 0), k) ∷ more)
+-- the three tests, of which the last gives its own code
+module _ (flags : ℕ) (message : List ℕ) (interval : ℕ) where
+  abbrev three : List (Bool × ℕ)
+  three = (shorter message 1, 0x04) ∷ (not (within 5 65535 interval), 0x0B) ∷ (not (eqb (messageCode flags message) 0), messageCode flags message) ∷ []
 
-no-code : (a b : Bool) (k : ℕ) → three a b k [] ≡ 0 → (a ≡ false) × (b ≡ false) × (k ≡ 0)
-unfolding codeOf
-no-code true b k e = absurd (omega arith)
-no-code false true k e = absurd (omega arith)
-no-code false false k e = (refl, refl, last-test k ∙ e)
+  telling : Telling three
+  telling = join (not (eqb (messageCode flags message) 0 && not (eqb (messageCode flags message) 0))) true (own-code (messageCode flags message)) tt
 
-more-tests : (a b : Bool) (k : ℕ) (more : List (Bool × ℕ)) → three a b k [] ≡ 0 → three a b k more ≡ codeOf more
-unfolding codeOf
-more-tests a b k more e = let f = no-code a b k e in λ j. codeOf ((f .0 j, 0x04) ∷ (f .1 j, 0x0B) ∷ (not (eqb (f .2 j) 0), f .2 j) ∷ more)
-
-no-more-tests : (a b : Bool) (k : ℕ) (more : List (Bool × ℕ)) → (three a b k [] ≡ 0 → ⊥) → three a b k more ≡ three a b k []
-unfolding codeOf
-no-more-tests true b k more n = refl
-no-more-tests false true k more n = refl
-no-more-tests false false zero more n = absurd (n refl)
-no-more-tests false false (suc k) more n = rw (ne-eqb (suc k) 0 (λ e. omega arith))
-
-pub passed : (flags : ℕ) (message : List ℕ) (interval : ℕ) → 0 ≡ startCode flags message interval → (36 ≤ length message) × (messageCode flags message ≡ 0)
-unfolding startCode shorter
-passed flags message interval e = let f = no-code _ _ (messageCode flags message) (sym e) in (ltb-false (length message) 36 (f .0), f .2)
-
--- the size of a message whose code is 0x00
-size-tested : (a b : Bool) (more : List (Bool × ℕ)) → codeOf ((not a, 0x15) ∷ (not b, 0x0A) ∷ more) ≡ 0 → T b
-unfolding codeOf
-size-tested false b more e = absurd (omega arith)
-size-tested true false more e = absurd (omega arith)
-size-tested true true more e = tt
-
-pub good-size : (flags : ℕ) (m : List ℕ) → messageCode flags m ≡ 0 → (4 ≤ sizeOf m) × (sizeOf m ≤ 12)
-unfolding messageCode
-good-size flags m e = let t = size-tested (eqb (protocolOf m) 5) (within 4 12 (sizeOf m)) _ e in (within-low 4 12 (sizeOf m) t, within-high 4 12 (sizeOf m) t)
+  pub passed : 0 ≡ startCode flags message interval → (36 ≤ length message) × (messageCode flags message ≡ 0)
+  unfolding startCode shorter
+  passed e = let f = failed three telling (sym e) in (nltb→le (length message) 36 (f .0), eqb→eq (messageCode flags message) 0 (yes (eqb (messageCode flags message) 0) (f .1 .1 .0)))
 
 -- ---- start, with the places
 
@@ -199,12 +159,12 @@ module _ (r : List ℕ) (o : Opened r) (message : List ℕ) (interval t : ℕ) w
 
   pub start-refused : (code : ℕ) → code ≡ startCode (fl (openOf r)) message interval → (code ≡ 0 → ⊥) → gives code 0 [] r ≡ callOutcome threeRates t r (startPeriodic message interval)
   unfolding periodicCode startCode
-  start-refused code e n = refusal code n (no-more-tests _ _ (messageCode (fl (openOf r)) message) ((leb 10 (free (placesOf r)), 0x0C) ∷ []) (λ z. n (e ∙ z)) ∙ sym e)
+  start-refused code e n = refusal code n (no-more-tests (three (fl (openOf r)) message interval) ((leb 10 (free (placesOf r)), 0x0C) ∷ []) (λ z. n (e ∙ z)) ∙ sym e)
 
   module _ (e : 0 ≡ startCode (fl (openOf r)) message interval) where
     room-test : periodicCode (openOf r) message interval ≡ codeOf ((leb 10 (free (placesOf r)), 0x0C) ∷ [])
     unfolding periodicCode startCode
-    room-test = more-tests _ _ (messageCode (fl (openOf r)) message) ((leb 10 (free (placesOf r)), 0x0C) ∷ []) (sym e)
+    room-test = more-tests (three (fl (openOf r)) message interval) ((leb 10 (free (placesOf r)), 0x0C) ∷ []) (telling (fl (openOf r)) message interval) (sym e)
 
     pub start-full : (i : ℕ) → i ≡ free (placesOf r) → 10 ≤ i → gives 0x0C 0 [] r ≡ callOutcome threeRates t r (startPeriodic message interval)
     unfolding codeOf
@@ -233,23 +193,14 @@ module _ (r : List ℕ) (o : Opened r) (number t : ℕ) where
       moves r o threeRates t (stopPeriodic number) (withPlaces r (set (placesOf r) i none)) 0 0 [] _
       (rw e (rw ei refl)) (lent-back r o (λ ps. set ps i none) ys ey)
 
-  -- the place of the number
-  has-at : (i : ℕ) → number ≡ i + 1 → has (placesOf r) number ≡ taken (getD (placesOf r) i none)
-  unfolding has
-  has-at i e = ap (has (placesOf r)) (e ∙ add-one i)
-
   pub stop-zero : number < 1 → gives 0x0D 0 [] r ≡ callOutcome threeRates t r (stopPeriodic number)
-  unfolding has
-  stop-zero h = let z : number ≡ 0 = omega arith in stop-none (ap (has (placesOf r)) z)
+  stop-zero h = stop-none (has-none (placesOf r) number (below 1 (length (placesOf r)) number h))
 
   ten-places : length (placesOf r) ≡ 10
   ten-places = ap length (sym (lent-held r o)) ∙ ten-held (partOf r) (lent r o)
 
   pub stop-high : 10 < number → gives 0x0D 0 [] r ≡ callOutcome threeRates t r (stopPeriodic number)
-  unfolding taken
-  stop-high h =
-      let past : length (placesOf r) ≤ number - 1 = omega (arith, ten-places) in
-      stop-none (has-at (number - 1) (omega arith) ∙ ap taken (List·getD-eq-default (placesOf r) none past))
+  stop-high h = stop-none (has-none (placesOf r) number (above 1 (length (placesOf r)) number (omega (arith, ten-places))))
 
   module _ (i : ℕ) (ei : number ≡ i + 1) (h : i < 10) where
     place-is : getD (placesOf r) i none ≡ heldAt (partOf r) (lent r o) i h
@@ -257,9 +208,9 @@ module _ (r : List ℕ) (o : Opened r) (number t : ℕ) where
 
     pub stop-empty : wordAt (i * 4) (partOf r) ≡ 0 → gives 0x0D 0 [] r ≡ callOutcome threeRates t r (stopPeriodic number)
     unfolding taken
-    stop-empty z = stop-none (has-at i ei ∙ ap taken (place-is ∙ empty-at (partOf r) (lent r o) i h z))
+    stop-empty z = stop-none (has-place (placesOf r) number i ei ∙ ap taken (place-is ∙ empty-at (partOf r) (lent r o) i h z))
 
     pub stop-taken : (wordAt (i * 4) (partOf r) ≡ 0 → ⊥) → (ys : List ℕ) → ((flags : ℕ) → ys ≡ periodics flags .put (set (periodics flags .get (partOf r)) i none))
         → gives 0 0 [] (putMid 280 450 r ys) ≡ callOutcome threeRates t r (stopPeriodic number)
     unfolding taken
-    stop-taken n ys ey = stop-done (has-at i ei ∙ ap taken (place-is ∙ taken-at (partOf r) (lent r o) i h n .is)) i (omega arith) ys ey
+    stop-taken n ys ey = stop-done (has-place (placesOf r) number i ei ∙ ap taken (place-is ∙ taken-at (partOf r) (lent r o) i h n .is)) i (omega arith) ys ey

@@ -11,15 +11,15 @@ use borrow.Rule.Slice.PartMut.{putMid}
 use Rattle.codec.specs.Plain.{zeros}
 use Rattle.codec.specs.Code.{Code, byte, both, via, such, mark, markOf, upTo, putAll}
 use Rattle.codec.proofs.Lawful.{both-first}
-use Rattle.codec.proofs.Many.{upTo-lawful, upTo-count, upTo-each, upTo-drop}
-use Rattle.codec.proofs.Store.{given-out}
+use Rattle.codec.proofs.Many.{upTo-lawful, upTo-count, upTo-drop}
+use Rattle.codec.proofs.Store as store
+use Rattle.codec.proofs.Lists.{part-of-first}
 use Rattle.machine.specs.Message.{Rec, shownAll}
 use Rattle.machine.specs.Channel.{Receiving}
 use Rattle.layout.specs.Record.{rec36, inCell}
 use Rattle.layout.specs.Memory.{receivingParts, receivingPart}
 use Rattle.layout.proofs.Memory.{in-lawful, shown-is}
 use Rattle.layout.proofs.Sizes.{in-size, queue-size}
-use Rattle.receiving.proofs.Store as store
 
 shown-all : (flags : ℕ) (xs : List Rec) → shownAll xs ≡ putAll (inCell flags) xs
 unfolding shownAll inCell such
@@ -76,16 +76,16 @@ module _ (flags : ℕ) (x : Receiving) (t : T (receivingPart flags .ok x)) where
   in-store a k v ys g h =
       let l = store-long (x .queue) store-ok in
       ap (λ (q : List ℕ). set (putMid a k q ys) 0 v) bytes-are
-      ∙ ap (λ (q : List ℕ). set q 0 v) (store.part-of-first a k held end ys (omega arith))
+      ∙ ap (λ (q : List ℕ). set q 0 v) (part-of-first a k held end ys (omega arith))
       ∙ set-append-left (putMid a k held ys) end 0 v (omega (arith, length-append (take a held) (ys ++ drop k (drop a held)), length-take-le a held (omega arith)))
 
   -- ARRIVE: one record more
-  pub one-more : (y : Rec) (ys : List ℕ) → length (x .queue) < 32 → ys ≡ rec36 .put y → length ys ≡ 36
+  pub one-more : (y : Rec) (ys : List ℕ) → length (x .queue) < 32 → ys ≡ rec36 .put y
       → set (putMid (1 + length (x .queue) * 36) 36 (receivingPart flags .put x) ys) 0 (length (x .queue) + 1) ≡ receivingPart flags .put (record { queue = x .queue ++ y ∷ []; lost = x .lost })
   unfolding inCell such
-  one-more y ys h e l =
+  one-more y ys h e =
       in-store (1 + n * 36) 36 (n + 1) ys (omega arith) (omega arith)
-      ∙ ap (λ (q : List ℕ). q ++ end) (store.one-more (in-lawful flags) 32 36 (in-size flags) (x .queue) store-ok y ys h e l)
+      ∙ ap (λ (q : List ℕ). q ++ end) (store.one-more (in-lawful flags) 32 36 (in-size flags) (x .queue) refl store-ok y (1 + n * 36) 36 (n + 1) h e refl refl refl)
       ∙ sym (put-is (x .queue ++ y ∷ []) (x .lost))
 
   -- ARRIVE: none
@@ -99,8 +99,7 @@ module _ (flags : ℕ) (x : Receiving) (t : T (receivingPart flags .ok x)) where
   pub oldest-out : (m : ℕ) → m ≤ length (x .queue) → take (m * 36) (drop 1 (receivingPart flags .put x)) ≡ shownAll (take m (x .queue))
   oldest-out m h =
       cells-are (m * 36) (omega (arith, few))
-      ∙ ap (λ (k : ℕ). take (m * k) (drop 1 held)) (sym (in-size flags))
-      ∙ given-out (in-lawful flags) 32 (x .queue) (upTo-each 32 cell (x .queue) store-ok) m h
+      ∙ store.oldest-out (in-lawful flags) 32 36 (in-size flags) (x .queue) refl store-ok m h
       ∙ sym (shown-all flags (take m (x .queue)))
 
   -- READ, CLEAR: the m oldest gone
@@ -111,6 +110,6 @@ module _ (flags : ℕ) (x : Receiving) (t : T (receivingPart flags .ok x)) where
       let e′ : ys ≡ drop (m * 36) (take (n * 36) (drop 1 held)) ++ zeros (m * 36) = e ∙ ap (λ (q : List ℕ). drop (m * 36) q ++ zeros (m * 36)) (cells-are (n * 36) (omega arith)) in
       ap (λ (q : List ℕ). set q 1153 0)
       (in-store 1 (n * 36) (n - m) ys (omega arith) (omega arith)
-      ∙ ap (λ (q : List ℕ). q ++ end) (store.oldest-gone (in-lawful flags) 32 36 (in-size flags) (x .queue) store-ok m ys h e′))
+      ∙ ap (λ (q : List ℕ). q ++ end) (store.oldest-gone (in-lawful flags) 32 36 (in-size flags) (x .queue) refl store-ok m (n * 36) (n - m) h refl e′ refl))
       ∙ set-at (upTo 32 cell .put (drop m (x .queue))) (markOf (x .lost)) [] 0 1153 (store-long (drop m (x .queue)) (upTo-drop 32 cell m (x .queue) store-ok))
       ∙ sym (put-is (drop m (x .queue)) false)

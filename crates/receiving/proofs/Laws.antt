@@ -5,17 +5,16 @@ use Prim.Native.Nat.{ℕ, _+_, _*_, _-_, _≤_, _<_, min}
 use native.Mathlib.Omega.{arith}
 use mathlib.Core.Bool.{Bool, true, false}
 use mathlib.Core.List.{List, [], _∷_, _++_}
-use lib.ListN.{length, getD, set, take, drop, length-drop}
-use lib.Seq.{length-take-le}
+use lib.ListN.{length, getD, set, take, drop}
 use lib.Dec.{T, eqb}
-use borrow.Rule.Slice.PartMut.{putMid, midOf}
+use borrow.Rule.Slice.PartMut.{putMid}
 use borrow.Author.Tests.{eq-eqb, ne-eqb, lt-ltb, le-ltb}
 use Rattle.codec.specs.Plain.{zeros}
 use Rattle.codec.specs.Code.{byte, via, such, mark}
 use Rattle.codec.proofs.Lawful.{mark-lawful, mark-ok}
 use Rattle.machine.specs.Codes.{codeOf}
 use Rattle.machine.specs.Message.{Rec, shownAll}
-use Rattle.machine.specs.Channel.{Chan, Open, Receiving, withReceiving, read, arrive, onOpen, onRead, reading, readCode, shorter, unless}
+use Rattle.machine.specs.Channel.{Open, Receiving, withReceiving, read, arrive, onOpen, onRead, reading, readCode, shorter, unless}
 use Rattle.layout.specs.Record.{rec36}
 use Rattle.layout.specs.Memory.{receivingPart, region}
 use Rattle.layout.specs.Promise.{Opened, gives, callOutcome}
@@ -94,16 +93,15 @@ module _ (r : List ℕ) (f : Opened r) where
       part .becomes (set q 1153 1) (record { queue = xs; lost = true }) (ap (λ (m : List ℕ). set m 1153 1) (part .is) ∙ one-lost fl (o .receiving) fine)
       ∙ ap (region .put) (sym (is-arrived y ∙ rw (le-ltb (length xs) 32 (omega (arith, held))) refl))
 
-  pub is-last : (y : Rec) (ys : List ℕ) → getD q 0 0 < 32 → ys ≡ rec36 .put y → length ys ≡ length (midOf (1 + getD q 0 0 * 36) (1 + getD q 0 0 * 36 + 36 - (1 + getD q 0 0 * 36)) q)
+  pub is-last : (y : Rec) (ys : List ℕ) → getD q 0 0 < 32 → ys ≡ rec36 .put y
       → putMid 1344 1154 r (set (putMid (1 + getD q 0 0 * 36) (1 + getD q 0 0 * 36 + 36 - (1 + getD q 0 0 * 36)) q ys) 0 (getD q 0 0 + 1)) ≡ region .put (arrived y (region .get r))
   unfolding arrive
-  is-last y ys h e l =
+  is-last y ys h e =
       let at : ℕ = 1 + getD q 0 0 * 36 in
       let size : at + 36 - at ≡ 36 = omega arith in
-      let long : length ys ≡ 36 = l ∙ length-take-le (at + 36 - at) (drop at q) (omega (arith, length-drop at q, part .long)) ∙ size in
       let small : length xs < 32 = omega (arith, held) in
       part .becomes _ (record { queue = xs ++ y ∷ []; lost = o .receiving .lost })
-      ((λ i. set (putMid (1 + held i * 36) (size i) (part .is i) ys) 0 (held i + 1)) ∙ one-more fl (o .receiving) fine y ys small e long)
+      ((λ i. set (putMid (1 + held i * 36) (size i) (part .is i) ys) 0 (held i + 1)) ∙ one-more fl (o .receiving) fine y ys small e)
       ∙ ap (region .put) (sym (is-arrived y ∙ rw (lt-ltb (length xs) 32 small) refl))
 
   -- ---- read

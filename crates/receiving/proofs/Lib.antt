@@ -1,4 +1,3 @@
-pub mod Store
 pub mod Bytes
 pub mod Laws
 pub mod Sent

@@ -17,8 +17,7 @@ use Rattle.codec.proofs.Lawful.{such-test, such-under, both-first, both-second}
 use Rattle.codec.proofs.Word.{word-back, word-there}
 use Rattle.machine.specs.Message.{bit, idOf, idBytes, Rec, twelve, received}
 use Rattle.layout.specs.Record.{row, rec36, recParts, body, dataParts, dataFits, widthFits, outgoing, outCell}
-use Rattle.layout.proofs.Memory.{rec-lawful, out-lawful}
-use Rattle.layout.proofs.Sizes.{out-size}
+use Rattle.layout.proofs.Memory.{rec-lawful}
 use Rattle.message.specs.Cell.{numbers, padded}
 use Rattle.message.proofs.Laws.{record-is}
 use Rattle.receiving.specs.Queue.{Outgoing}
@@ -145,8 +144,3 @@ module _ (m : List ℕ) (o : Outgoing m) where
       ap₂ (λ (n : ℕ) (y : List ℕ). idBytes n ++ y) (ei ∙ ap idOf d) (ap₂ (λ (j : ℕ) (y : List ℕ). take j y) k (sym (drop-drop 4 24 m) ∙ ap (λ (y : List ℕ). drop 4 y) d))
       ∙ frame-there (x .bytes) z (sized x fine .0) (subst (λ (y : List ℕ). T (all isByte y)) d (all-drop isByte 24 m u)) in
       ap₂ (λ (n : ℕ) (y : List ℕ). received clock (n + 1) y) (er ∙ tx-is) b
-
--- the bytes of such a record
-pub outgoing-put : (flags : ℕ) (x : Rec) → T (outCell flags .ok x) → Outgoing (rec36 .put x)
-unfolding outCell such
-outgoing-put flags x t = record { flags = flags; long = out-lawful flags .long x t ∙ out-size flags; valid = out-lawful flags .valid-put x t }

@@ -17,11 +17,11 @@ use Rattle.machine.specs.Channel.{opened, Open, withSending}
 use Rattle.layout.specs.Record.{rec36, outCell}
 use Rattle.layout.specs.Memory.{region}
 use Rattle.layout.specs.Promise.{Opened}
-use Rattle.layout.proofs.Memory.{out-lawful, shown-is}
+use Rattle.layout.proofs.Memory.{shown-is}
 use Rattle.layout.proofs.Sizes.{out-size}
 use Rattle.layout.proofs.Good.{Fine, fl, Good, ok-good}
 use Rattle.layout.proofs.Region.{openOf, fine, byte-of, written-part, flight-part, opened-again, open-again}
-use Rattle.sending.proofs.Store.{count-at}
+use Rattle.codec.proofs.Store.{count-at}
 
 -- ---- the flight store: one record, or zeros
 
@@ -60,7 +60,7 @@ module _ {r : List ℕ} (f : Opened r) where
   good = ok-good o (fine r f)
 
   pub written-count : getD r 730 0 ≡ length (o .sending .written)
-  written-count = byte-of (written-part r f) 0 (omega arith) ∙ count-at (out-lawful (fl o)) 16 36 (out-size (fl o)) (o .sending .written) refl
+  written-count = byte-of (written-part r f) 0 (omega arith) ∙ count-at (outCell (fl o)) 16 (o .sending .written) refl
 
   pub in-part : getD (take 577 (drop 730 r)) 0 0 ≡ getD r 730 0
   in-part = getD-take 577 (drop 730 r) 0 0 (omega arith) ∙ getD-drop 730 r 0 0

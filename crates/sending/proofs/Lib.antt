@@ -1,4 +1,3 @@
-pub mod Store
 pub mod Writing
 pub mod Next
 pub mod Flight

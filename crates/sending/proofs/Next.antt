@@ -1,16 +1,18 @@
 -- What goes in flight next: where its bytes lie in the two stores; and the written store without its oldest record. Assumes nothing.
-use mathlib.Core.Path.{_≡_, refl, sym, ap, _∙_, subst}
+use mathlib.Core.Path.{_≡_, refl, sym, ap, _∙_}
 use Prim.Native.Nat.{ℕ, zero, suc, _+_, _*_, _-_, _≤_, _<_}
 use native.Mathlib.Nat.{not-suc-le-zero}
 use native.Mathlib.Omega.{arith}
 use mathlib.Core.Option.{Option}
-use mathlib.Core.List.{List, [], _∷_, _++_}
+use mathlib.Core.List.{List, [], _∷_, _++_, append-nil}
 use lib.ListN.{length, getD, set, take, drop, length-drop}
 use lib.Seq.{length-take-le}
 use lib.Dec.{T}
 use borrow.Rule.Slice.PartMut.{putMid}
 use Rattle.codec.specs.Plain.{zeros}
-use Rattle.codec.specs.Code.{such, getAll, upTo}
+use Rattle.codec.specs.Code.{such, getAll, putAll, upTo}
+use Rattle.codec.proofs.Lists.{part-long}
+use Rattle.codec.proofs.Store.{oldest-out, oldest-gone}
 use Rattle.machine.specs.Message.{Rec}
 use Rattle.machine.specs.Filter.{Slots}
 use Rattle.machine.specs.Channel.{Periodic, Next, next}
@@ -23,7 +25,6 @@ use Rattle.periodics.proofs.Next.{oldest as oldestOf}
 use Rattle.periodics.proofs.Held.{any-get, ten-held, message-at}
 use Rattle.sending.specs.Store.{written, WrittenPart}
 use Rattle.sending.specs.Flight.{nextShown, Choosing}
-use Rattle.sending.proofs.Store.{part-long, oldest-at, oldest-gone}
 use Rattle.sending.proofs.Writing.{holds-ok, holds-is, holds-count}
 
 -- some are written: the oldest and the others
@@ -76,8 +77,8 @@ module _ {p w : List ℕ} {i : ℕ} (q : Choosing p w i) where
   unfolding nextShown outCell such
   oldest-shown h k =
       let s = several ws (omega (arith, q .something h, holds-count (q .store))) in
-      oldest-at (out-lawful flags) 16 36 (out-size flags) (s .oldest) (s .others) (holds-is (q .store) ∙ ap (written flags .put) (s .are))
-      (subst (λ (x : List Rec). T (written flags .ok x)) (s .are) (holds-ok (q .store)))
+      oldest-out (out-lawful flags) 16 36 (out-size flags) ws (holds-is (q .store)) (holds-ok (q .store)) 1 (omega (arith, q .something h, holds-count (q .store)))
+      ∙ ap (λ (x : List Rec). putAll (outCell flags) (take 1 x)) (s .are) ∙ append-nil (rec36 .put (s .oldest))
       ∙ sym (shown-is (s .oldest))
       ∙ shown-any _ (next-oldest ps (ten-held p (q .part)) i (q .first) ws h ∙ ap (oldestOf ps) (s .are)) k
 
@@ -92,8 +93,4 @@ module _ (store : List ℕ) (long : length store ≡ 577) (some-held : 0 < getD 
   without-oldest flags v =
       let w : WrittenPart flags store = record { long = long; valid = v } in
       let n = holds-count w in
-      let s = several (written flags .get store) (omega arith) in
-      let count : getD store 0 0 ≡ length (s .oldest ∷ s .others) = n ∙ ap length (s .are) in
-      oldest-gone (out-lawful flags) 16 36 (out-size flags) (s .oldest) (s .others) (1 + 36 * getD store 0 0 - 1) (getD store 0 0 - 1) (holds-is w ∙ ap (written flags .put) (s .are))
-      (subst (λ (x : List Rec). T (written flags .ok x)) (s .are) (holds-ok w)) (omega arith) moved (omega arith)
-      ∙ ap (λ (x : List Rec). written flags .put (drop 1 x)) (sym (s .are))
+      oldest-gone (out-lawful flags) 16 36 (out-size flags) (written flags .get store) (holds-is w) (holds-ok w) 1 (1 + 36 * getD store 0 0 - 1) (getD store 0 0 - 1) (omega arith) (omega arith) moved (omega arith)

@@ -11,7 +11,8 @@ use borrow.Rule.Slice.PartMut.{putMid}
 use Rattle.codec.specs.Plain.{all, isByte}
 use Rattle.codec.specs.Word.{wordAt}
 use Rattle.codec.specs.Code.{such}
-use Rattle.codec.proofs.Lists.{all-drop}
+use Rattle.codec.proofs.Lists.{all-drop, part-long}
+use Rattle.codec.proofs.Store.{count-at, one-more}
 use Rattle.codec.proofs.Many.{upTo-lawful}
 use Rattle.machine.specs.Codes.{codeOf, threeRates}
 use Rattle.machine.specs.Message.{Rec, messageCode, clean}
@@ -20,11 +21,10 @@ use Rattle.layout.specs.Record.{rec36, outCell}
 use Rattle.layout.specs.Promise.{Opened, gives, callOutcome}
 use Rattle.layout.proofs.Memory.{out-lawful}
 use Rattle.layout.proofs.Sizes.{out-size, written-size}
-use Rattle.layout.proofs.Calls.{clean-ok, writing-ok}
+use Rattle.layout.proofs.Calls.{writing-ok}
 use Rattle.layout.proofs.Good.{fl}
 use Rattle.layout.proofs.Region.{openOf, moves, stays, word-of, flags-part, written-part}
 use Rattle.sending.specs.Store.{written, WrittenPart, queued, Stopped}
-use Rattle.sending.proofs.Store.{part-long, count-at, one-more}
 
 -- ---- one message
 
@@ -63,7 +63,7 @@ module _ {flags : ℕ} {store : List ℕ} (w : WrittenPart flags store) where
   holds-is = sym (upTo-lawful (out-lawful flags) 16 .put-get store sized (w .valid))
 
   pub holds-count : getD store 0 0 ≡ length holds
-  holds-count = count-at (out-lawful flags) 16 36 (out-size flags) holds holds-is
+  holds-count = count-at (outCell flags) 16 holds holds-is
 
   -- what one message leaves
   abbrev After : List ℕ → ℕ → List ℕ → Type 0
@@ -85,14 +85,14 @@ module _ {flags : ℕ} {store : List ℕ} (w : WrittenPart flags store) where
   pub room : getD store 0 0 < 16 → length (take (next-at + 36 - next-at) (drop next-at store)) ≡ 36
   room h = part-long next-at 36 store (omega (arith, w .long))
 
-  pub stored : (m ys : List ℕ) → 36 ≤ length m → T (all isByte m) → messageCode flags m ≡ 0 → getD store 0 0 < 16 → ys ≡ rec36 .put (clean m)
+  pub stored : (m ys : List ℕ) → messageCode flags m ≡ 0 → getD store 0 0 < 16 → ys ≡ rec36 .put (clean m)
       → After m 0 (set (putMid next-at (next-at + 36 - next-at) store ys) 0 (getD store 0 0 + 1))
   unfolding outCell such
-  stored m ys lm b e h ey =
+  stored m ys e h ey =
       let n : getD store 0 0 ≡ length holds = holds-count in
       let code : writeCode flags holds m ≡ 0 = code-good flags holds m e (omega arith) in (
         sym code,
-        one-more (out-lawful flags) 16 36 (out-size flags) holds (clean m) next-at (next-at + 36 - next-at) (getD store 0 0 + 1) holds-is holds-ok (clean-ok flags m lm b e) (omega arith) ey
+        one-more (out-lawful flags) 16 36 (out-size flags) holds holds-is holds-ok (clean m) next-at (next-at + 36 - next-at) (getD store 0 0 + 1) (omega arith) ey
             (omega arith) (omega arith) (omega arith)
             ∙ ap (written flags .put) (sym (one-queued flags holds m code)),
       )

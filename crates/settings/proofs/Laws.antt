@@ -1,27 +1,27 @@
 -- What connecting, disconnecting, configuring and clearing do to the bytes of a region is what the machine does to the channel. Assumes nothing.
-use mathlib.Core.Path.{_≡_, refl, sym, ap, ap₂, _∙_, subst}
+use mathlib.Core.Path.{_≡_, refl, sym, ap, _∙_}
 use Prim.Native.Nat.{ℕ, zero, suc, _+_, _≤_, _<_}
 use native.Mathlib.Omega.{arith}
-use mathlib.Core.Bool.{Bool, true, false}
+use mathlib.Core.Bool.{Bool, true, false, not}
 use mathlib.Core.List.{List, [], _∷_, _++_}
 use lib.ListN.{length, getD, set, take, drop}
-use lib.Seq.{drop-drop}
-use lib.Dec.{T, eqb, leb·zero}
-use borrow.Author.Tests.{eq-eqb, ne-eqb, le-leb, lt-leb}
+use lib.Dec.{T, eqb}
+use borrow.Author.Tests.{eq-eqb, ne-eqb}
 use borrow.Rule.Slice.PartMut.{putMid}
-use Rattle.codec.specs.Plain.{if_then_else_, within, member, zeros}
+use Rattle.codec.specs.Plain.{if_then_else_, member, zeros}
 use Rattle.codec.specs.Word.{word}
 use Rattle.codec.specs.Code.{Code, byte, word32, both, bothOn, via, such, markOf, mark, many, slot, getSlot, vacant, upTo, upToOne, beside, eachVia}
-use Rattle.codec.proofs.Lawful.{Lawful}
+use Rattle.codec.proofs.Tests.{above, between}
 use Rattle.machine.specs.Codes.{codeOf, threeRates}
 use Rattle.machine.specs.Filter.{noneYet}
-use Rattle.machine.specs.Channel.{Chan, closed, opened, Open, Call, Outcome, Answer, says, unless, doneWith, isFlags, isOpen, connectCode, fresh, onConnect, onOpen, onClear, onGet, onSet, withSending, withReceiving, withFilters, disconnect, clear, getParameter, setParameter}
+use Rattle.machine.specs.Channel.{Chan, closed, Outcome, says, unless, doneWith, isFlags, isOpen, connectCode, fresh, onConnect, onOpen, onClear, onGet, onSet, disconnect, clear, getParameter, setParameter}
 use Rattle.layout.specs.Record.{row, body, rec36, outCell, inCell}
 use Rattle.layout.specs.Memory.{config, filterColumns, filters, periodicColumns, periodics, sendingPart, receivingPart, rest, openPart, chanBack, region}
-use Rattle.layout.specs.Promise.{gives, answered, Opened, regionGives, callOutcome}
+use Rattle.layout.specs.Promise.{gives, Opened, regionGives, callOutcome}
 use Rattle.layout.proofs.Memory.{region-lawful}
 use Rattle.layout.proofs.Sizes.{region-size}
-use Rattle.layout.proofs.Region.{openOf, Part, stays, moves, word-of, mark-of, mark-stored, rate-part, loopback-part, filters-part, periodics-part, written-part, receiving-part}
+use Rattle.layout.proofs.Tables as tables
+use Rattle.layout.proofs.Region.{openOf, Part, stays, moves, mark-of, mark-stored, rate-part, loopback-part, filters-part, periodics-part, written-part, receiving-part}
 
 mark-number : (b : Bool) → markOf b ≡ (if b then 1 else 0)
 mark-number true = refl
@@ -58,21 +58,16 @@ module _ (p f r : ℕ) where
 
 -- the tests of the line come into play where those three give no code
 module _ (p f r : ℕ) (more : List (Bool × ℕ)) where
-  by-tests : (a b c : Bool) → (codeOf ((a, 3) ∷ (b, 6) ∷ (c, 25) ∷ []) ≡ 0 → codeOf ((a, 3) ∷ (b, 6) ∷ (c, 25) ∷ more) ≡ codeOf more)
-      × ((codeOf ((a, 3) ∷ (b, 6) ∷ (c, 25) ∷ []) ≡ 0 → ⊥) → codeOf ((a, 3) ∷ (b, 6) ∷ (c, 25) ∷ more) ≡ codeOf ((a, 3) ∷ (b, 6) ∷ (c, 25) ∷ []))
-  unfolding codeOf
-  by-tests true b c = (λ h. absurd (omega arith), λ n. refl)
-  by-tests false true c = (λ h. absurd (omega arith), λ n. refl)
-  by-tests false false true = (λ h. absurd (omega arith), λ n. refl)
-  by-tests false false false = (λ h. refl, λ n. absurd (n refl))
+  abbrev three : List (Bool × ℕ)
+  three = (not (eqb p 5), 0x03) ∷ (not (isFlags f), 0x06) ∷ (not (member r threeRates), 0x19) ∷ []
 
   pub more-tests : connectCode threeRates p f r [] ≡ 0 → connectCode threeRates p f r more ≡ codeOf more
   unfolding connectCode
-  more-tests = by-tests _ _ _ .0
+  more-tests = tables.more-tests three more tt
 
   pub no-more-tests : (connectCode threeRates p f r [] ≡ 0 → ⊥) → connectCode threeRates p f r more ≡ connectCode threeRates p f r []
   unfolding connectCode
-  no-more-tests = by-tests _ _ _ .1
+  no-more-tests = tables.no-more-tests three more
 
 -- a closed channel's region is zeros
 pub closed-zeros : region .put closed ≡ zeros 2498
@@ -178,13 +173,13 @@ module _ (r : List ℕ) (o : Opened r) (t : ℕ) where
   set-rate p n ys e g y = moves r o threeRates t _ _ 0 0 [] _ (rw (eq-eqb p 1 e) (rw g refl)) (rate-part r o .becomes ys n y)
 
   pub set-mark-bad : (p n : ℕ) → p ≡ 3 → 1 < n → gives 5 0 [] r ≡ callOutcome threeRates t r (setParameter p n)
-  unfolding onOpen onSet unless codeOf doneWith within
-  set-mark-bad p n e b = stays r o threeRates t _ 5 0 [] (rw e (rw (lt-leb n 1 b) (rw (leb·zero n) refl)))
+  unfolding onOpen onSet unless codeOf doneWith
+  set-mark-bad p n e b = stays r o threeRates t _ 5 0 [] (rw e (rw (above 0 1 n b) refl))
 
   pub set-mark : (p n : ℕ) → p ≡ 3 → n ≤ 1 → gives 0 0 [] (set r 9 n) ≡ callOutcome threeRates t r (setParameter p n)
-  unfolding onOpen onSet unless codeOf doneWith within
+  unfolding onOpen onSet unless codeOf doneWith
   set-mark p n e g =
-      moves r o threeRates t _ _ 0 0 [] _ (rw e (rw (le-leb n 1 g) (rw (leb·zero n) (rw (one-either n g) refl)))) (mark-stored (loopback-part r o) (omega (arith, o .long)) n g)
+      moves r o threeRates t _ _ 0 0 [] _ (rw e (rw (between 0 1 n (omega arith) g) (rw (one-either n g) refl))) (mark-stored (loopback-part r o) (omega (arith, o .long)) n g)
 
   pub set-unknown : (p n : ℕ) → (p ≡ 1 → ⊥) → (p ≡ 3 → ⊥) → gives 1 0 [] r ≡ callOutcome threeRates t r (setParameter p n)
   unfolding onOpen onSet

@@ -84,7 +84,7 @@ module _ {A : Type 0} {c : Code A} (l : Lawful c) where
   validAll-below : (n : ℕ) (m : List ℕ) → validAll c n m ≡ allBelow n (λ i. c .valid (cellAt c m i))
   unfolding allBelow
   validAll-below zero m = refl
-  validAll-below (suc n) m = checked-more l n m ∙ ap (λ (b : Bool). b && c .valid (cellAt c m n)) (validAll-below n m)
+  validAll-below (suc n) m = checked-more c n m ∙ ap (λ (b : Bool). b && c .valid (cellAt c m n)) (validAll-below n m)
 
   pub many-rows : (n : ℕ) (d : A) → Rows n (many n c) d (λ m i. c .valid (cellAt c m i)) (λ m i. c .get (cellAt c m i))
   unfolding many

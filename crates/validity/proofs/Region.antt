@@ -10,12 +10,13 @@ use lib.Dec.{leb}
 use borrow.Author.Tests.{eq-eqb, ne-eqb}
 use Rattle.codec.specs.Plain.{member, allZero}
 use Rattle.codec.specs.Word.{wordAt}
-use Rattle.codec.specs.Code.{Code, byte, word32, both, bothOn, via, such, mark, many, slot, vacant, upTo, upToOne, beside, eachVia, validAll, validSlot}
+use Rattle.codec.specs.Code.{Code, word32, both, bothOn, via, such, mark, many, slot, upTo, upToOne, validAll, validSlot}
 use Rattle.codec.proofs.Word.{word-part}
 use Rattle.machine.specs.Codes.{threeRates}
 use Rattle.machine.specs.Channel.{isFlags}
-use Rattle.layout.specs.Record.{row, body, rec36, outCell, inCell}
-use Rattle.layout.specs.Memory.{configFits, config, filterColumns, filters, periodicColumns, periodics, sendingPart, receivingPart, rest, openPart, region, memory, valid}
+use Rattle.layout.specs.Record.{outCell, inCell}
+use Rattle.layout.specs.Memory.{configFits, config, filters, periodics, sendingPart, receivingPart, rest, openPart, region, memory, valid}
+use Rattle.layout.proofs.Sizes.{filters-size, periodics-size, written-size, queue-size, sending-size, config-size, memory-size}
 use Rattle.validity.specs.Place.{cell, placesValid}
 use Rattle.validity.proofs.Parts.{Bytes, less, rest-part, behind-word, both-is, mark-is, at-rest}
 
@@ -40,56 +41,22 @@ pub config-flat : (m : List ℕ) → Bytes m → (leb (getD m 8 0) 1 && (isFlags
 unfolding config via such configFits
 config-flat m t = sym (λ j. settings-is m t j && (isFlags (first-word m j) && member (second-word m j) threeRates))
 
--- ---- sizes
-
-pub region-size : region .size ≡ 2498
-unfolding region openPart bothOn config rest receivingPart sendingPart periodics periodicColumns filters filterColumns outCell inCell rec36 body row mark via such both many slot vacant upTo upToOne beside eachVia word32 byte
-region-size = refl
-
-memory-size : memory .size ≡ 9996
-unfolding memory region openPart bothOn config rest receivingPart sendingPart periodics periodicColumns filters filterColumns outCell inCell rec36 body row mark via such both many slot vacant upTo upToOne beside eachVia word32 byte
-memory-size = refl
-
-config-size : config .size ≡ 9
-unfolding config such via both word32 mark byte
-config-size = refl
+-- ---- the parts of an open channel
 
 module _ (flags : ℕ) where
-  filters-size : filters flags .size ≡ 270
-  unfolding filters filterColumns row mark via such both many beside eachVia byte
-  filters-size = refl
-
-  periodics-size : periodics flags .size ≡ 450
-  unfolding periodics periodicColumns outCell rec36 body row mark via such both many vacant beside eachVia word32 byte
-  periodics-size = refl
-
-  written-size : upTo 16 (outCell flags) .size ≡ 577
-  unfolding upTo outCell such rec36 body row via both many word32 byte
-  written-size = refl
-
-  queue-size : upTo 32 (inCell flags) .size ≡ 1153
-  unfolding upTo inCell such rec36 body row via both many word32 byte
-  queue-size = refl
-
-  sending-size : sendingPart flags .size ≡ 1064
-  unfolding sendingPart periodics periodicColumns outCell rec36 body row mark via such both many vacant upTo upToOne beside eachVia word32 byte
-  sending-size = refl
-
-  -- ---- the parts of an open channel
-
   pub sending-flat : (m : List ℕ) → length m ≡ 1064
       → (placesValid true flags (take 450 m) && (upTo 16 (cell true flags) .valid (take 577 (drop 450 m)) && upTo 1 (cell true flags) .valid (take 37 (drop 1027 m)))) ≡ sendingPart flags .valid m
   unfolding sendingPart via upToOne cell placesValid
   sending-flat m h =
-      sym (both-is (periodics flags) (both (upTo 16 (outCell flags)) (upToOne (outCell flags))) 450 m periodics-size
+      sym (both-is (periodics flags) (both (upTo 16 (outCell flags)) (upToOne (outCell flags))) 450 m (periodics-size flags)
       ∙ ap (λ (b : Bool). periodics flags .valid (take 450 m) && b)
-      (both-is (upTo 16 (outCell flags)) (upToOne (outCell flags)) 577 (drop 450 m) written-size
+      (both-is (upTo 16 (outCell flags)) (upToOne (outCell flags)) 577 (drop 450 m) (written-size flags)
       ∙ ap (λ (x : List ℕ). upTo 16 (outCell flags) .valid (take 577 (drop 450 m)) && upTo 1 (outCell flags) .valid x) (drop-drop 577 450 m ∙ sym (rest-part 1027 37 m h))))
 
   pub receiving-flat : (m : List ℕ) → Bytes m → (upTo 32 (cell false flags) .valid (take 1153 m) && leb (getD m 1153 0) 1) ≡ receivingPart flags .valid m
   unfolding receivingPart via cell
   receiving-flat m t =
-      sym (both-is (upTo 32 (inCell flags)) mark 1153 m queue-size
+      sym (both-is (upTo 32 (inCell flags)) mark 1153 m (queue-size flags)
       ∙ ap (λ (b : Bool). upTo 32 (inCell flags) .valid (take 1153 m) && b) (mark-is (drop 1153 m) (less 1153 m t) ∙ ap (λ (k : ℕ). leb k 1) (at-rest 1153 m)))
 
   rest-flat : (m : List ℕ) → length m ≡ 2497
@@ -97,10 +64,10 @@ module _ (flags : ℕ) where
       ≡ (placesValid false flags (take 270 (drop 9 m)) && (sendingPart flags .valid (take 1064 (drop 279 m)) && receivingPart flags .valid (take 1154 (drop 1343 m))))
   unfolding rest placesValid
   rest-flat m h =
-      both-is (filters flags) (both (sendingPart flags) (receivingPart flags)) 270 (drop 9 m) filters-size
+      both-is (filters flags) (both (sendingPart flags) (receivingPart flags)) 270 (drop 9 m) (filters-size flags)
       ∙ ap (λ (b : Bool). filters flags .valid (take 270 (drop 9 m)) && b)
       (ap (λ (x : List ℕ). both (sendingPart flags) (receivingPart flags) .valid x) (drop-drop 270 9 m)
-      ∙ both-is (sendingPart flags) (receivingPart flags) 1064 (drop 279 m) sending-size
+      ∙ both-is (sendingPart flags) (receivingPart flags) 1064 (drop 279 m) (sending-size flags)
       ∙ ap (λ (x : List ℕ). sendingPart flags .valid (take 1064 (drop 279 m)) && receivingPart flags .valid x) (drop-drop 1064 279 m ∙ sym (rest-part 1343 1154 m h)))
 
 -- the flags stand at the front

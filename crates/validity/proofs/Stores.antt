@@ -1,5 +1,5 @@
 -- What validity is of several values in a row and of a store of at most n, as a loop finds it out. Assumes nothing.
-use mathlib.Core.Path.{_≡_, refl, sym, ap, ap₂, _∙_}
+use mathlib.Core.Path.{_≡_, sym, ap, ap₂, _∙_}
 use Prim.Native.Nat.{ℕ, _+_, _*_, _≤_, _<_}
 use native.Mathlib.Numerals.{add-one}
 use native.Mathlib.Omega.{arith}
@@ -9,20 +9,18 @@ use lib.ListN.{length, getD, take, drop, length-drop}
 use lib.Seq.{drop-drop, take-all}
 use borrow.Author.Tests.{le-leb, lt-leb}
 use Rattle.codec.specs.Plain.{allZero}
-use Rattle.codec.specs.Code.{Code, upTo, validAll, via, such, both, many, byte, word32}
-use Rattle.codec.proofs.Lawful.{Lawful}
+use Rattle.codec.specs.Code.{Code, upTo, validAll}
 use Rattle.codec.proofs.Store.{checked-more}
-use Rattle.layout.specs.Record.{row, body, rec36, outCell, inCell}
-use Rattle.layout.proofs.Memory.{out-lawful, in-lawful}
+use Rattle.layout.proofs.Sizes.{out-size, in-size}
 use Rattle.validity.specs.Place.{cell}
 
 -- a turn: the value at i, which lies in the k bytes from a on, where the values begin at b
-pub turn : {A : Type 0} {c : Code A} (l : Lawful c) (n : ℕ) → c .size ≡ n → (b i a k : ℕ) (s : List ℕ) (good : Bool) → a ≡ b + i * n → k ≡ n
+pub turn : {A : Type 0} (c : Code A) (n : ℕ) → c .size ≡ n → (b i a k : ℕ) (s : List ℕ) (good : Bool) → a ≡ b + i * n → k ≡ n
     → good ≡ validAll c i (drop b s) → (good && c .valid (take k (drop a s))) ≡ validAll c (i + 1) (drop b s)
-turn {c} l n z b i a k s good ea ek g =
+turn c n z b i a k s good ea ek g =
     let e : take k (drop a s) ≡ take (c .size) (drop (i * c .size) (drop b s)) =
     ap₂ (λ (x y : ℕ). take x (drop y s)) (ek ∙ sym z) (ea ∙ ap (λ (x : ℕ). b + i * x) (sym z)) ∙ ap (λ (x : List ℕ). take (c .size) x) (sym (drop-drop (i * c .size) b s)) in
-    ap₂ (λ (x : Bool) (y : List ℕ). x && c .valid y) g e ∙ sym (checked-more l i (drop b s)) ∙ ap (λ (j : ℕ). validAll c j (drop b s)) (sym (add-one i))
+    ap₂ (λ (x : Bool) (y : List ℕ). x && c .valid y) g e ∙ sym (checked-more c i (drop b s)) ∙ ap (λ (j : ℕ). validAll c j (drop b s)) (sym (add-one i))
 
 module _ {A : Type 0} (c : Code A) (n : ℕ) (m : List ℕ) where
   pub store-over : n < getD m 0 0 → false ≡ upTo n c .valid m
@@ -40,12 +38,7 @@ module _ {A : Type 0} (c : Code A) (n : ℕ) (m : List ℕ) where
 
 -- ---- both kinds of records
 
-pub cell-lawful : (sending : Bool) (flags : ℕ) → Lawful (cell sending flags)
-unfolding cell
-cell-lawful true flags = out-lawful flags
-cell-lawful false flags = in-lawful flags
-
 pub cell-size : (sending : Bool) (flags : ℕ) → cell sending flags .size ≡ 36
-unfolding cell outCell inCell such rec36 body row via both many word32 byte
-cell-size true flags = refl
-cell-size false flags = refl
+unfolding cell
+cell-size true flags = out-size flags
+cell-size false flags = in-size flags

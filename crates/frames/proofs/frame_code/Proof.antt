@@ -1,4 +1,4 @@
-use mathlib.Core.Path.{_≡_, sym, subst}
+use mathlib.Core.Path.{subst}
 use Prim.Native.Nat.{ℕ, _<_, _≤_}
 use denote.Ref.{now}
 use Rattle.frames.proofs.Laws.{bad-width, bad-id, bad-length, good-frame}

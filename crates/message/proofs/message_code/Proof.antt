@@ -7,8 +7,9 @@ use native.Mathlib.Omega.{arith}
 use borrow.Author.Tests.{not-true, not-false, eq-eqb, ne-eqb, lt-ltb, le-ltb}
 use Rattle.codec.specs.Plain.{within}
 use Rattle.codec.specs.Word.{wordAt}
+use Rattle.codec.proofs.Tests.{below, above, between}
 use Rattle.machine.specs.Message.{takes, wideOf, dataOf, idOf, idLimit}
-use Rattle.message.proofs.Laws.{checks, too-small, too-large, good-size, id-of-data}
+use Rattle.message.proofs.Laws.{checks, id-of-data}
 use borrow.Author.Needs.{needs}
 use Rattle.message.proofs.message_code.Statement.{statement}
 use Rattle.message.proofs.message_code.Tie as tie
@@ -22,7 +23,7 @@ low : (c : tie.Else2) → 4 ≤ wordAt 16 (c .before .before .before .before .be
 low c = omega (arith, c .before .word-at2 .ensures .0)
 
 sized : (c : tie.Else3) → within 4 12 (wordAt 16 (c .before .before .before .before .before .before .args .m .now)) ≡ true
-sized c = good-size _ (low (c .before)) (omega (arith, c .before .before .word-at2 .ensures .0))
+sized c = between 4 12 _ (low (c .before)) (omega (arith, c .before .before .word-at2 .ensures .0))
 
 taken : (c : tie.After-takes-width) → c .takes-width .result ≡ takes (c .before .before .before .before .before .before .before .before .args .flags) (wideOf (c .before .before .before .before .before .before .before .before .args .m .now))
 taken c = c .takes-width .ensures ∙ ap (takes (c .before .before .before .before .before .before .before .before .args .flags)) (c .before .is-wide .ensures)
@@ -43,12 +44,12 @@ returns c =
 returns-2 : tie.Need-returns-2
 returns-2 c =
     let args = c .before .before .before .before .before .args in
-    checks (args .flags) (args .m .now) (can (c .before .before)) (too-small _ (omega (arith, c .before .word-at2 .ensures .0))) refl refl
+    checks (args .flags) (args .m .now) (can (c .before .before)) (below 4 12 _ (omega (arith, c .before .word-at2 .ensures .0))) refl refl
 
 returns-3 : tie.Need-returns-3
 returns-3 c =
     let args = c .before .before .before .before .before .before .args in
-    checks (args .flags) (args .m .now) (can (c .before .before .before)) (too-large _ (low (c .before)) (omega (arith, c .before .before .word-at2 .ensures .0))) refl refl
+    checks (args .flags) (args .m .now) (can (c .before .before .before)) (above 4 12 _ (omega (arith, c .before .before .word-at2 .ensures .0))) refl refl
 
 returns-4 : tie.Need-returns-4
 returns-4 c =

@@ -1,5 +1,4 @@
 use native.Mathlib.Omega.{arith}
-use lib.Dec.{eqb}
 use denote.Ref.{now}
 use Rattle.layout.proofs.Entry.{length-valid}
 use Rattle.owned.proofs.Laws.{frame-no-line, frame-refused, frame-closed, frame-lent, frame-offered, frame-short}

@@ -1,19 +1,19 @@
-use mathlib.Core.Path.{_≡_, refl}
+use mathlib.Core.Path.{refl}
 use native.Mathlib.Omega.{arith}
 use denote.Ref.{now}
 use Rattle.layout.proofs.Entry.{length-valid, no-channel, not-open, is-found}
-use Rattle.owned.proofs.Laws.{below, above}
+use Rattle.codec.proofs.Tests.{below, above}
 use borrow.Author.Needs.{needs}
 use Rattle.owned.proofs.place_of.Statement.{statement}
 use Rattle.owned.proofs.place_of.Tie as tie
 
 returns : tie.Need-returns
 returns c =
-    no-channel (now (c .before .args .mem)) (c .before .pre) (c .before .args .channel) (below (c .before .args .channel) (c .if1 .taken))
+    no-channel (now (c .before .args .mem)) (c .before .pre) (c .before .args .channel) (below 1 4 (c .before .args .channel) (c .if1 .taken))
 
 returns-2 : tie.Need-returns-2
 returns-2 c =
-    no-channel (now (c .before .before .args .mem)) (c .before .before .pre) (c .before .before .args .channel) (above (c .before .before .args .channel) (c .if2 .taken))
+    no-channel (now (c .before .before .args .mem)) (c .before .before .pre) (c .before .before .args .channel) (above 1 4 (c .before .before .args .channel) (c .if2 .taken))
 
 shared-slice-read-if3 : tie.Need-shared-slice-read-if3
 shared-slice-read-if3 c =

@@ -4,7 +4,7 @@ use Prim.Native.Nat.{_+_, _*_, _-_}
 use native.Mathlib.Omega.{arith}
 use Rattle.codec.proofs.Lists.{bytes-of}
 use Rattle.periodics.proofs.Held.{start-stored}
-use Rattle.periodics.proofs.Region.{good-size}
+use Rattle.message.proofs.Laws.{size-of-good}
 use borrow.Author.Needs.{needs}
 use Rattle.periodics.proofs.start_at.Statement.{statement}
 use Rattle.periodics.proofs.start_at.Tie as tie
@@ -12,7 +12,7 @@ use Rattle.periodics.proofs.start_at.Tie as tie
 put-clean-requires : tie.Need-put-clean-requires
 put-clean-requires c κs =
     let s = c .before .before .before .before .before .before .before .pre .0 in
-    let size = good-size (s .part .flags) _ (s .good) in
+    let size = size-of-good (s .part .flags) _ (s .good) in
     (search needs, s .long, size .1)
 
 returns : tie.Need-returns

@@ -12,7 +12,7 @@ returns c =
     let args = start .args in
     let y : Rec = received (args .clock) (args .rx) (idBytes (args .id) ++ args .bytes .now) in
     let put = c .before .before .before .before .put-received in
-    is-last (args .r .now) (start .pre .0) y (put .last .0) (c .before .before .before .before .before .before .if1 .taken) (put .ensures) (put .kept .0)
+    is-last (args .r .now) (start .pre .0) y (put .last .0) (c .before .before .before .before .before .before .if1 .taken) (put .ensures)
 
 returns-2 : tie.Need-returns-2
 returns-2 c = let start = c .before .before .before .before .before .before .before in is-lost (start .args .r .now) (start .pre .0) _ (c .before .before .if1 .left)

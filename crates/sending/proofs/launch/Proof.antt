@@ -2,13 +2,13 @@
 use mathlib.Core.Path.{ap, _∙_}
 use mathlib.Core.List.{List, _∷_}
 use Prim.Native.Nat.{ℕ}
-use Rattle.sending.proofs.Store.{marked}
+use Rattle.codec.proofs.Lists.{marked}
 use borrow.Author.Needs.{needs}
 use Rattle.sending.proofs.launch.Statement.{statement}
 use Rattle.sending.proofs.launch.Tie as tie
 
 returns : tie.Need-returns
-returns c = let start = c .before .before .before .before .before .before in marked 36 (start .args .flight .now) _ (start .pre .0) ∙ ap {B = List ℕ} (λ (s : List ℕ). 1 ∷ s) (c .before .before .copy-record .ensures)
+returns c = let start = c .before .before .before .before .before .before in marked 36 1 (start .args .flight .now) _ (start .pre .0) ∙ ap {B = List ℕ} (λ (s : List ℕ). 1 ∷ s) (c .before .before .copy-record .ensures)
 
 pub launch-spec : {M : Type 1} → statement M
 launch-spec =

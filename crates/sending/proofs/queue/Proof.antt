@@ -1,6 +1,5 @@
 -- `sending::queue` meets its contract. Assumes nothing.
 use mathlib.Core.Path.{sym, _∙_}
-use Rattle.codec.proofs.Lists.{bytes-of}
 use Rattle.message.proofs.Laws.{size-of-good}
 use Rattle.sending.proofs.Writing.{bad-message, no-room, room, stored}
 use borrow.Author.Needs.{needs}
@@ -30,8 +29,7 @@ returns-3 c =
     let good = roomy .before .before in
     let checked = good .before in
     let start = checked .before .before .before in
-    let bytes = bytes-of (start .args .m .now) (λ i. checked .before .shared-slice-known .given i .fits) in
-    stored (start .pre .0) (start .args .m .now) _ (start .pre .1) bytes (sym (checked .message-code .ensures) ∙ good .if1 .left) (roomy .if2 .left) (put .put-clean .ensures)
+    stored (start .pre .0) (start .args .m .now) _ (sym (checked .message-code .ensures) ∙ good .if1 .left) (roomy .if2 .left) (put .put-clean .ensures)
 
 pub queue-spec : {M : Type 1} → statement M
 queue-spec =

@@ -1,5 +1,5 @@
 use borrow.Author.Tests.{not-true, not-false}
-use mathlib.Core.Path.{_≡_, refl, sym, ap, _∙_}
+use mathlib.Core.Path.{sym, _∙_}
 use Rattle.settings.proofs.Laws.{bad-protocol, bad-flags, bad-rate, good-connect}
 use borrow.Author.Needs.{needs}
 use Rattle.settings.proofs.connect_code.Statement.{statement}

@@ -1,6 +1,6 @@
 use native.Mathlib.Omega.{arith}
 use borrow.Rule.Slice.PartMut.{putMid}
-use mathlib.Core.Path.{_≡_, refl, sym, ap, _∙_}
+use mathlib.Core.Path.{sym, _∙_}
 use lib.ListN.{length-set}
 use denote.Ref.{now}
 use Rattle.settings.proofs.Laws.{connect-refused, connect-in-use, connect-fresh}

@@ -1,5 +1,4 @@
-use borrow.Author.Tests.{not-true, not-false}
-use mathlib.Core.Path.{_≡_, refl, sym, ap, _∙_}
+use mathlib.Core.Path.{_∙_}
 use denote.Ref.{now}
 use Rattle.layout.proofs.Region.{word-of, rate-part}
 use Rattle.settings.proofs.Laws.{get-rate, get-loopback, get-unknown}

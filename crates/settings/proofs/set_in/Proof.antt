@@ -1,5 +1,5 @@
 use borrow.Author.Tests.{not-true, not-false}
-use mathlib.Core.Path.{_≡_, refl, sym, ap, _∙_}
+use mathlib.Core.Path.{sym, _∙_}
 use denote.Ref.{now}
 use Rattle.settings.proofs.Laws.{set-rate-bad, set-rate, set-mark-bad, set-mark, set-unknown}
 use borrow.Author.Needs.{needs}

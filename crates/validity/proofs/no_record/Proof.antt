@@ -1,8 +1,6 @@
 -- `validity::no_record` meets its contract: four times eight bytes, then four. Assumes nothing.
 use Rattle.validity.proofs.Tail.{no-record}
 use lib.Dec.{eqb}
-use Prim.Native.Nat.{ℕ}
-use mathlib.Core.List.{List}
 use mathlib.Core.Bool.{_&&_}
 use mathlib.Core.Path.{_∙_}
 use borrow.Author.Needs.{needs}

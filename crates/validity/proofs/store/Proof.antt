@@ -1,5 +1,5 @@
 -- `validity::store` meets its contract, for any capacity and both directions. The invariant: the records passed are valid. Assumes nothing.
-use Rattle.validity.proofs.Stores.{turn, store-over, store-is, cell-lawful, cell-size}
+use Rattle.validity.proofs.Stores.{turn, store-over, store-is, cell-size}
 use Rattle.validity.specs.Place.{cell}
 use Rattle.codec.specs.Code.{validAll}
 use lib.ListN.{length, getD, drop}
@@ -35,7 +35,7 @@ loop-again c = let at = c .before .before .before in
       omega arith,
       refl,
       ap (λ (b : Bool). at .loop .good && b) (c .cell .ensures)
-          ∙ turn (cell-lawful (start .args .sending) (start .args .flags)) 36 (cell-size (start .args .sending) (start .args .flags)) 1 (at .loop .i) a (a + 36 - a) (start .args .s .now) (at .loop .good) refl (omega arith) (at .loop .inv .3),
+          ∙ turn (cell (start .args .sending) (start .args .flags)) 36 (cell-size (start .args .sending) (start .args .flags)) 1 (at .loop .i) a (a + 36 - a) (start .args .s .now) (at .loop .good) refl (omega arith) (at .loop .inv .3),
     )
 
 returns-2 : tie.Need-returns-2 Inv-loop μ-loop

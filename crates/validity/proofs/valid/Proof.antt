@@ -1,7 +1,7 @@
 -- `validity::valid` meets its contract. The invariant: the regions passed are valid. Assumes nothing.
-use Rattle.validity.proofs.Region.{region-size, not-long, valid-is}
+use Rattle.validity.proofs.Region.{not-long, valid-is}
+use Rattle.layout.proofs.Sizes.{region-size}
 use Rattle.validity.proofs.Stores.{turn}
-use Rattle.layout.proofs.Memory.{region-lawful}
 use Rattle.layout.specs.Memory.{region}
 use Rattle.codec.proofs.Lists.{bytes-of}
 use Rattle.codec.specs.Code.{validAll}
@@ -33,7 +33,7 @@ loop-again c = let at = c .before .before .before in
     let a : ℕ = 4 + at .loop .i * 2498 in (
       omega arith,
       ap (λ (b : Bool). at .loop .good && b) (c .region-valid .ensures)
-          ∙ turn region-lawful 2498 region-size 4 (at .loop .i) a (a + 2498 - a) (start .args .mem .now) (at .loop .good) refl (omega arith) (at .loop .inv .1),
+          ∙ turn region 2498 region-size 4 (at .loop .i) a (a + 2498 - a) (start .args .mem .now) (at .loop .good) refl (omega arith) (at .loop .inv .1),
     )
 
 returns-2 : tie.Need-returns-2 Inv-loop μ-loop
