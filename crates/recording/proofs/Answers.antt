@@ -1,7 +1,7 @@
 -- From what a call on the memory promises and what was written to what the replay of one event leaves. Assumes nothing.
-use Prim.Native.Nat.{ℕ, _+_, _*_, _-_, _≤_, _<_}
+use Prim.Native.Nat.{ℕ, _+_, _*_, _≤_, _<_}
 use mathlib.Core.Path.{_≡_, refl, sym, ap, ap₂, _∙_, subst}
-use mathlib.Core.Bool.{Bool, true, false}
+use mathlib.Core.Bool.{true, false}
 use mathlib.Core.List.{List, [], _∷_, _++_, append-nil}
 use native.Mathlib.Omega.{arith}
 use lib.ListN.{length, take, drop, set, length-append, length-take, length-drop, length-replicate}
@@ -9,12 +9,12 @@ use lib.Seq.{take-at}
 use lib.Dec.{T, eqb}
 use borrow.Author.Tests.{eq-eqb, ne-eqb}
 use borrow.Rule.Slice.PartMut.{putMid, midOf}
-use Rattle.codec.specs.Plain.{if_then_else_, zeros}
+use Rattle.codec.specs.Plain.{zeros}
 use Rattle.machine.specs.Codes.{threeRates}
 use Rattle.machine.specs.Channel.{Call, Answer, says, write, read, takeNext}
 use Rattle.machine.specs.Device.{Device, Event, call, step}
 use Rattle.layout.specs.Memory.{image, load, valid}
-use Rattle.layout.specs.Promise.{Result, gives, answered, outcome}
+use Rattle.layout.specs.Promise.{gives, answered, outcome}
 use Rattle.layout.proofs.Entry.{by-step, four}
 use Rattle.number.specs.Number.{bytesOf}
 use Rattle.events.specs.declared.Plain.{Plain}

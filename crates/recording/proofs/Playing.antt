@@ -1,20 +1,18 @@
 -- What a replay has done between two events, and how it goes on and ends. Assumes nothing.
 use Prim.Native.Nat.{ℕ, zero, suc, _+_, _*_, _-_, _≤_, _<_}
-use mathlib.Core.Path.{_≡_, refl, sym, ap, ap₂, _∙_, subst}
-use mathlib.Core.Bool.{Bool, true, false}
-use mathlib.Core.Option.{Option, none, some}
-use mathlib.Core.List.{List, [], _∷_, _++_, append-nil, append-assoc}
+use mathlib.Core.Path.{_≡_, refl, sym, ap, _∙_, subst}
+use mathlib.Core.Option.{none, some}
+use mathlib.Core.List.{List, [], _++_, append-nil, append-assoc}
 use native.Mathlib.Omega.{arith}
 use borrow.Author.Tests.{le-leb, lt-leb}
-use lib.Dec.{T, leb, ltb}
-use lib.ListN.{length, take, drop, length-append}
-use Rattle.codec.specs.Plain.{if_then_else_, all, isByte, zeros}
+use lib.Dec.{T}
+use lib.ListN.{length, drop}
+use Rattle.codec.specs.Plain.{all, isByte, zeros}
 use Rattle.codec.proofs.Lists.{all-take, all-drop}
 use Rattle.machine.specs.Codes.{threeRates}
 use Rattle.machine.specs.Device.{Device, powerOn, step}
 use Rattle.machine.specs.Device as machine
 use Rattle.machine.specs.Demands.{queueOf}
-use Rattle.machine.proofs.Dispatch.{channels-kept}
 use Rattle.layout.specs.Memory.{image, load, valid}
 use Rattle.layout.specs.Reach.{Bytes}
 use Rattle.layout.proofs.Memory.{load-image, ok-load, valid-image}
@@ -23,7 +21,6 @@ use Rattle.layout.proofs.Sizes.{power-on-zeros}
 use Rattle.layout.proofs.Reach.{step-ok, power-on-ok}
 use Rattle.number.specs.Number.{bytesOf}
 use Rattle.number.specs.Place.{Written}
-use Rattle.number.proofs.Laws.{written-short}
 use Rattle.events.specs.declared.Plain.{Plain}
 use Rattle.events.specs.declared.Plain.the-variants as plain
 use Rattle.events.specs.declared.Giving.{Giving}
@@ -34,7 +31,7 @@ use Rattle.events.specs.Events.{readEvent}
 use Rattle.events.specs.declared.Found.{Found}
 use Rattle.events.specs.declared.Found.the-variants as found
 use Rattle.events.specs.Found.{between, plainOf, givingOf, eventOf, foundOf, EventThere, FoundThere, ReadsAs}
-use Rattle.events.proofs.Ending.{least, event-ends}
+use Rattle.events.proofs.Ending.{event-ends}
 use Rattle.recording.specs.Output.{answerBytes}
 use Rattle.recording.specs.Step.{Put, Answered}
 use Rattle.recording.specs.Replay.{badEvent, replies, played}

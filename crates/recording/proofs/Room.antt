@@ -1,13 +1,13 @@
 -- How much is written: no event adds more than 19 bytes for each of its own to what is written and what the receive queues hold. Assumes nothing.
 use Prim.Native.Nat.{ℕ, zero, suc, _+_, _*_, _-_, _≤_, zero-le, _<_, min}
-use mathlib.Core.Path.{_≡_, refl, sym, ap, _∙_, subst}
-use mathlib.Core.Bool.{Bool, true, false, not, _&&_, _||_}
+use mathlib.Core.Path.{_≡_, refl, sym, ap, subst}
+use mathlib.Core.Bool.{Bool, true, false, _&&_, _||_}
 use mathlib.Core.Option.{Option, none, some}
 use mathlib.Core.List.{List, [], _∷_, _++_, map}
 use native.Mathlib.Nat.{le-refl}
 use native.Mathlib.Omega.{arith}
-use borrow.Author.Tests.{leb-true, leb-false, eqb-true, ltb-true, ltb-false}
-use lib.ListN.{length, getD, set, take, drop, length-append, length-take, length-drop}
+use borrow.Author.Tests.{eqb-true, ltb-true, ltb-false}
+use lib.ListN.{length, getD, set, take, length-append, length-take, length-drop}
 use lib.Dec.{T, eqb, leb, ltb, ltb→lt, leb→le}
 use Rattle.codec.proofs.Tests.{left, right, true-T}
 use Rattle.codec.specs.Plain.{if_then_else_, within, member, all}
@@ -19,7 +19,6 @@ use Rattle.machine.specs.Device.{Device, Event, connect, call, frame, advance, 
 use Rattle.machine.specs.Demands.{FourChannels, queueOf}
 use Rattle.machine.proofs.Dispatch.{withChan, step-connect, step-call, step-frame, step-advance, step-close, step-no-line, step-no-channel}
 use Rattle.machine.proofs.Refusals.{unless-case, if-case, codes-in-table}
-use Rattle.machine.proofs.Counts.{read-counts}
 use Rattle.number.specs.Number.{bytesOf}
 use Rattle.number.proofs.Laws.{groups-one, written-short}
 use Rattle.events.proofs.Ending.{least}

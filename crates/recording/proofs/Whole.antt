@@ -4,9 +4,7 @@ use mathlib.Core.Path.{_≡_, sym, ap, ap₂, _∙_}
 use mathlib.Core.List.{List, _++_}
 use native.Mathlib.Omega.{arith}
 use borrow.Author.Tests.{lt-ltb, le-ltb}
-use lib.Dec.{ltb}
 use lib.ListN.{length, drop}
-use Rattle.codec.specs.Plain.{if_then_else_}
 use Rattle.machine.specs.Device.{powerOn}
 use Rattle.number.specs.Number.{groups, bytesOf}
 use Rattle.number.specs.Place.{Written}
