@@ -30,3 +30,9 @@ else
 fi
 
 strict=(-Wall -Wextra -pedantic -Werror)
+
+# Writes target/staticlib/libpassthru.a. The crates that it is made of are proved first, as many at a time as there are processors.
+build_archive() {
+    mkdir -p target/c
+    { rt check passthru && rt staticlib passthru; } >target/c/log 2>&1 || { tail -n 5 target/c/log >&2; return 1; }
+}
