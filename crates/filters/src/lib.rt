@@ -137,13 +137,13 @@ fn start_code(flags: u32, kind: u32, mask: &[u8], pattern: &[u8], place: usize) 
     if !between(1, 2, kind) {
         return codes::ERR_INVALID_FILTER_ID;
     }
-    if (octets::word_at(mask, 0) != 5) | (octets::word_at(pattern, 0) != 5) {
+    if (integers::word_at(mask, 0) != 5) | (integers::word_at(pattern, 0) != 5) {
         return codes::ERR_MSG_PROTOCOL_ID;
     }
-    let size = octets::word_at(mask, 16);
-    let tx = octets::word_at(mask, 8);
-    let same = (size == octets::word_at(pattern, 16)) & (tx == octets::word_at(pattern, 8));
-    let fits = between(1, 12, size) & octets::takes_width(flags, tx / 0x100 % 2 == 1);
+    let size = integers::word_at(mask, 16);
+    let tx = integers::word_at(mask, 8);
+    let same = (size == integers::word_at(pattern, 16)) & (tx == integers::word_at(pattern, 8));
+    let fits = between(1, 12, size) & can::takes_width(flags, tx / 0x100 % 2 == 1);
     if !(same & fits) {
         return codes::ERR_INVALID_MSG;
     }
@@ -158,8 +158,8 @@ fn put_filter(part: &mut [u8], i: usize, kind: u32, mask: &[u8], pattern: &[u8])
     requires { ⌜ FilterPart (now part) × (i < 10) × Checked kind (now mask) (now pattern) ⌝ }
     ensures { λ r. ⌜ ((flags : ℕ) → now (part .exit) ≡ filters flags .put (set (filters flags .get (now (part .entry))) i (some (filterOf kind (now (mask .entry)) (now (pattern .entry)))))) ⌝ }
 {
-    let size = octets::word_at(mask, 16);
-    let wide = octets::word_at(mask, 8) / 0x100 % 2 == 1;
+    let size = integers::word_at(mask, 16);
+    let wide = integers::word_at(mask, 8) / 0x100 % 2 == 1;
     let mask_row = row(mask, 24, size as usize);
     let pattern_row = row(pattern, 24, size as usize);
     put_place(
@@ -179,7 +179,7 @@ pub fn start_filter(r: &mut [u8], kind: u32, mask: &[u8], pattern: &[u8]) -> Ans
     ensures { λ a. ⌜ ((t : ℕ) → gives (a .code) (a .value) [] (now (r .exit)) ≡ callOutcome threeRates t (now (r .entry)) (startFilter kind (now (mask .entry)) (now (pattern .entry)))) ⌝ }
 {
     let place = first_free(&r[10..280]);
-    let code = start_code(octets::word_at(r, 1), kind, mask, pattern, place);
+    let code = start_code(integers::word_at(r, 1), kind, mask, pattern, place);
     if code != codes::STATUS_NOERROR {
         return Answer {
             code: code,

@@ -16,7 +16,7 @@ pub fn frame_code(wide: u32, id: u32, bytes: &[u8]) -> u32
     if wide > 1 {
         return codes::ERR_INVALID_MSG;
     }
-    if id > octets::id_limit(wide == 1) {
+    if id > can::id_limit(wide == 1) {
         return codes::ERR_INVALID_MSG;
     }
     if bytes.len() > 8 {
@@ -30,7 +30,7 @@ fn put_frame(s: &mut [u8], id: u32, bytes: &[u8])
     requires { ⌜ (now s ≡ zeros 12) × (length (now bytes) ≤ 8) ⌝ }
     ensures { λ u. ⌜ now (s .exit) ≡ twelve (idBytes id ++ now (bytes .entry)) ⌝ }
 {
-    octets::put_id(&mut s[0..4], id);
+    integers::put_id(&mut s[0..4], id);
     let e = 4 + bytes.len();
     octets::copy(&mut s[4..e], bytes);
 }
@@ -50,7 +50,7 @@ pub fn offer(r: &mut [u8], clock: u32, wide: bool, id: u32, bytes: &[u8])
     requires { ⌜ Opened (now r) × (length (now bytes) ≤ 8) ⌝ }
     ensures { λ u. ⌜ now (r .exit) ≡ region .put (offered clock (openPart .get (drop 1 (now (r .entry)))) wide (idBytes id ++ now (bytes .entry))) ⌝ }
 {
-    if !octets::takes_width(octets::word_at(r, 1), wide) {
+    if !can::takes_width(integers::word_at(r, 1), wide) {
         return;
     }
     if !filters::lets_in(&r[10..280], wide, twelve_bytes(id, bytes)) {

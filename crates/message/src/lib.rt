@@ -3,19 +3,16 @@ ghost use mathlib.Core.Path.{_≡_};
 ghost use mathlib.Core.List.{_++_};
 ghost use Prim.Native.Nat.{_≤_};
 ghost use lib.ListN.{length};
-ghost use Rattle.machine.specs.Message.{messageCode, wideOf, sizeOf, widthFlag, idBytes, clean, received};
+ghost use Rattle.machine.specs.Message.{messageCode, wideOf, sizeOf, idBytes, clean, received};
 ghost use Rattle.layout.specs.Record.{rec36};
 ghost use Rattle.message.specs.Cell.{numbers, padded};
-
-// Raw CAN, the one protocol of a message.
-const CAN: u32 = 5;
 
 // Is the message's width flag set?
 fn is_wide(m: &[u8]) -> bool
     requires { ⌜ 36 ≤ length (now m) ⌝ }
     ensures { λ r. ⌜ r ≡ wideOf (now (m .entry)) ⌝ }
 {
-    octets::word_at(m, 8) / 0x100 % 2 == 1
+    integers::word_at(m, 8) / 0x100 % 2 == 1
 }
 
 // The code of a message to send on a connection of these flags; 0x00 where it is good.
@@ -23,10 +20,10 @@ pub fn message_code(m: &[u8], flags: u32) -> u32
     requires { ⌜ 36 ≤ length (now m) ⌝ }
     ensures { λ r. ⌜ r ≡ messageCode flags (now (m .entry)) ⌝ }
 {
-    if octets::word_at(m, 0) != CAN {
+    if integers::word_at(m, 0) != can::PROTOCOL {
         return codes::ERR_MSG_PROTOCOL_ID;
     }
-    let size = octets::word_at(m, 16);
+    let size = integers::word_at(m, 16);
     if size < 4 {
         return codes::ERR_INVALID_MSG;
     }
@@ -34,20 +31,13 @@ pub fn message_code(m: &[u8], flags: u32) -> u32
         return codes::ERR_INVALID_MSG;
     }
     let wide = is_wide(m);
-    if !octets::takes_width(flags, wide) {
+    if !can::takes_width(flags, wide) {
         return codes::ERR_INVALID_MSG;
     }
-    if octets::id_limit(wide) < octets::id_at(m, 24) {
+    if can::id_limit(wide) < integers::id_at(m, 24) {
         return codes::ERR_INVALID_MSG;
     }
     codes::STATUS_NOERROR
-}
-
-// The width flag of a width, in TxFlags and RxStatus.
-pub fn width_flag(wide: bool) -> u32
-    ensures { λ r. ⌜ r ≡ widthFlag wide ⌝ }
-{
-    if wide { 0x100 } else { 0 }
 }
 
 // The six numbers of a record, over its first 24 bytes.
@@ -55,12 +45,12 @@ fn put_numbers(h: &mut [u8], rx: u32, tx: u32, time: u32, size: u32)
     requires { ⌜ length (now h) ≡ 24 ⌝ }
     ensures { λ r. ⌜ now (h .exit) ≡ numbers rx tx time size ⌝ }
 {
-    octets::put_word(&mut h[0..4], CAN);
-    octets::put_word(&mut h[4..8], rx);
-    octets::put_word(&mut h[8..12], tx);
-    octets::put_word(&mut h[12..16], time);
-    octets::put_word(&mut h[16..20], size);
-    octets::put_word(&mut h[20..24], size);
+    integers::put_word(&mut h[0..4], can::PROTOCOL);
+    integers::put_word(&mut h[4..8], rx);
+    integers::put_word(&mut h[8..12], tx);
+    integers::put_word(&mut h[12..16], time);
+    integers::put_word(&mut h[16..20], size);
+    integers::put_word(&mut h[20..24], size);
 }
 
 // Bytes to the front of a slice, and zeros over the rest of it.
@@ -78,8 +68,8 @@ pub fn put_clean(cell: &mut [u8], m: &[u8])
     requires { ⌜ (length (now cell) ≡ 36) × (36 ≤ length (now m)) × (sizeOf (now m) ≤ 12) ⌝ }
     ensures { λ r. ⌜ now (cell .exit) ≡ rec36 .put (clean (now (m .entry))) ⌝ }
 {
-    let size = octets::word_at(m, 16);
-    let tx = width_flag(is_wide(m));
+    let size = integers::word_at(m, 16);
+    let tx = can::width_flag(is_wide(m));
     put_numbers(&mut cell[0..24], 0, tx, 0, size);
     let e = 24 + size as usize;
     put_padded(&mut cell[24..36], &m[24..e]);
@@ -90,7 +80,7 @@ fn put_frame(d: &mut [u8], id: u32, bytes: &[u8])
     requires { ⌜ (length (now d) ≡ 12) × (length (now bytes) ≤ 8) ⌝ }
     ensures { λ r. ⌜ now (d .exit) ≡ padded 12 (idBytes id ++ now (bytes .entry)) ⌝ }
 {
-    octets::put_id(&mut d[0..4], id);
+    integers::put_id(&mut d[0..4], id);
     put_padded(&mut d[4..12], bytes);
 }
 

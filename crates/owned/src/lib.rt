@@ -257,7 +257,7 @@ pub fn frame(mem: &mut [u8], line: u32, wide: u32, id: u32, bytes: &[u8]) -> u32
     if mem[a] == 0 {
         return codes::STATUS_NOERROR;
     }
-    let now = octets::word_at(mem, 0);
+    let now = integers::word_at(mem, 0);
     frames::offer(&mut mem[a..e], now, wide == 1, id, bytes);
     codes::STATUS_NOERROR
 }
@@ -284,9 +284,9 @@ pub fn advance(mem: &mut [u8], us: u32) -> u32
     if us > 1000000 {
         return codes::ERR_INVALID_TIME_INTERVAL;
     }
-    let clock = Clock::at(octets::word_at(mem, 0)).advance(us);
+    let clock = Clock::at(integers::word_at(mem, 0)).advance(us);
     advance_all(&mut mem[4..9996], us);
-    octets::put_word(&mut mem[0..4], clock.us);
+    integers::put_word(&mut mem[0..4], clock.us);
     codes::STATUS_NOERROR
 }
 
@@ -315,7 +315,7 @@ pub fn sent(mem: &mut [u8], channel: u32) -> u32
     if code != codes::STATUS_NOERROR {
         return code;
     }
-    let now = octets::word_at(mem, 0);
+    let now = integers::word_at(mem, 0);
     let a = p.base;
     let e = a + 2498;
     sending::sent(&mut mem[a..e], now)

@@ -13,7 +13,7 @@ fn put(mut bytes: [u8; 32], at: usize, number: u32) -> [u8; 32]
     ensures { λ r. ⌜ r ≡ putMid at 4 bytes (word number) ⌝ }
 {
     let end = at + 4;
-    octets::put_word(&mut bytes[at..end], number);
+    integers::put_word(&mut bytes[at..end], number);
     bytes
 }
 

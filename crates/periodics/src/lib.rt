@@ -20,7 +20,7 @@ fn first_free(part: &[u8]) -> usize
 {
     let mut i = 0;
     while i < 10 {
-        if octets::word_at(part, i * 4) == 0 {
+        if integers::word_at(part, i * 4) == 0 {
             return i;
         }
         i += 1;
@@ -35,10 +35,10 @@ fn put_timer(part: &mut [u8], i: usize, interval: u32, pending: u8)
 {
     let a = i * 4;
     let b = a + 4;
-    octets::put_word(&mut part[a..b], interval);
+    integers::put_word(&mut part[a..b], interval);
     let c = 40 + a;
     let d = c + 4;
-    octets::put_word(&mut part[c..d], 0);
+    integers::put_word(&mut part[c..d], 0);
     part[80 + i] = pending;
 }
 
@@ -74,7 +74,7 @@ pub fn start_periodic(r: &mut [u8], message: &[u8], interval: u32) -> Answer
     requires { ⌜ Opened (now r) ⌝ }
     ensures { λ a. ⌜ ((t : ℕ) → gives (a .code) (a .value) [] (now (r .exit)) ≡ callOutcome threeRates t (now (r .entry)) (startPeriodic (now (message .entry)) interval)) ⌝ }
 {
-    let code = start_code(message, interval, octets::word_at(r, 1));
+    let code = start_code(message, interval, integers::word_at(r, 1));
     if code != codes::STATUS_NOERROR {
         return Answer { code, value: 0 };
     }
@@ -115,7 +115,7 @@ pub fn stop_periodic(r: &mut [u8], number: u32) -> u32
         return codes::ERR_INVALID_MSG_ID;
     }
     let i = number as usize - 1;
-    if octets::word_at(&r[280..730], i * 4) == 0 {
+    if integers::word_at(&r[280..730], i * 4) == 0 {
         return codes::ERR_INVALID_MSG_ID;
     }
     stop_at(&mut r[280..730], i);
@@ -128,19 +128,19 @@ fn later_at(part: &mut [u8], i: usize, us: u32)
     ensures { λ u. ⌜ ((flags : ℕ) → now (part .exit) ≡ periodics flags .put (changed (laterSlot us) i (periodics flags .get (now (part .entry))))) ⌝ }
 {
     let a = i * 4;
-    let interval = octets::word_at(part, a);
+    let interval = integers::word_at(part, a);
     if interval == 0 {
         return;
     }
     let b = 40 + a;
     let e = b + 4;
     let period = 1000 * interval;
-    let phase = octets::word_at(part, b) + us;
+    let phase = integers::word_at(part, b) + us;
     if phase < period {
-        octets::put_word(&mut part[b..e], phase);
+        integers::put_word(&mut part[b..e], phase);
         return;
     }
-    octets::put_word(&mut part[b..e], phase % period);
+    integers::put_word(&mut part[b..e], phase % period);
     part[80 + i] = 1;
 }
 

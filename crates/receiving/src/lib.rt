@@ -47,7 +47,7 @@ pub fn receive(r: &mut [u8], clock: u32, wide: bool, id: u32, bytes: &[u8])
     requires { ⌜ Opened (now r) × (length (now bytes) ≤ 8) ⌝ }
     ensures { λ u. ⌜ now (r .exit) ≡ region .put (arrived (received clock (widthFlag wide) (idBytes id ++ now (bytes .entry))) (region .get (now (r .entry)))) ⌝ }
 {
-    arrive(r, clock, message::width_flag(wide), id, bytes);
+    arrive(r, clock, can::width_flag(wide), id, bytes);
 }
 
 // A record that was sent, its 36 bytes, arrives at a clock as if received, but with RxStatus bit 0 set.
@@ -55,9 +55,9 @@ pub fn echo(r: &mut [u8], clock: u32, sent: &[u8])
     requires { ⌜ Opened (now r) × Outgoing (now sent) ⌝ }
     ensures { λ u. ⌜ now (r .exit) ≡ region .put (arrived (received clock (rec36 .get (now (sent .entry)) .tx + 1) (rec36 .get (now (sent .entry)) .bytes)) (region .get (now (r .entry)))) ⌝ }
 {
-    let rx = octets::word_at(sent, 8) + 1;
-    let end = 24 + octets::word_at(sent, 16) as usize;
-    arrive(r, clock, rx, octets::id_at(sent, 24), &sent[28..end]);
+    let rx = integers::word_at(sent, 8) + 1;
+    let end = 24 + integers::word_at(sent, 16) as usize;
+    arrive(r, clock, rx, integers::id_at(sent, 24), &sent[28..end]);
 }
 
 // The m oldest records of a receiving part go: the others move to the front, zeros behind them. The lost mark is cleared.
@@ -113,7 +113,7 @@ pub fn read_in(r: &mut [u8], n: u32, buf: &mut [u8]) -> Answer
         };
     }
     let q = &mut r[PART..END];
-    let m = fewest(n, octets::wide(q[0]));
+    let m = fewest(n, integers::wide(q[0]));
     let code = read_code(q[LOST], n, m);
     let k = m as usize * CELL;
     let end = 1 + k;

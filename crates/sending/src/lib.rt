@@ -85,7 +85,7 @@ pub fn write(r: &mut [u8], n: u32, buffer: &[u8]) -> Answer
             value: 0,
         };
     }
-    let flags = octets::word_at(r, 1);
+    let flags = integers::word_at(r, 1);
     queue_all(&mut r[WRITTEN..FLIGHT], flags, n, buffer)
 }
 

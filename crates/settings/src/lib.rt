@@ -17,10 +17,10 @@ pub fn connect_code(protocol: u32, flags: u32, rate: u32) -> u32
     if protocol != 5 {
         return codes::ERR_INVALID_PROTOCOL_ID;
     }
-    if !octets::is_flags(flags) {
+    if !can::is_flags(flags) {
         return codes::ERR_INVALID_FLAGS;
     }
-    if !octets::is_rate(rate) {
+    if !can::is_known_rate(rate) {
         return codes::ERR_INVALID_BAUDRATE;
     }
     codes::STATUS_NOERROR
@@ -41,8 +41,8 @@ pub fn connect_in(r: &mut [u8], line: u32, protocol: u32, flags: u32, rate: u32)
             value: 0,
         };
     }
-    octets::put_word(&mut r[1..5], flags);
-    octets::put_word(&mut r[5..9], rate);
+    integers::put_word(&mut r[1..5], flags);
+    integers::put_word(&mut r[5..9], rate);
     r[0] = 1;
     Answer {
         code: codes::STATUS_NOERROR,
@@ -66,13 +66,13 @@ pub fn get_in(r: &[u8], parameter: u32) -> Answer
     if parameter == 1 {
         return Answer {
             code: codes::STATUS_NOERROR,
-            value: octets::word_at(r, 5),
+            value: integers::word_at(r, 5),
         };
     }
     if parameter == 3 {
         return Answer {
             code: codes::STATUS_NOERROR,
-            value: octets::wide(r[9]),
+            value: integers::wide(r[9]),
         };
     }
     Answer {
@@ -87,10 +87,10 @@ pub fn set_in(r: &mut [u8], parameter: u32, value: u32) -> u32
     ensures { λ c. ⌜ ((t : ℕ) → gives c 0 [] (now (r .exit)) ≡ callOutcome threeRates t (now (r .entry)) (setParameter parameter value)) ⌝ }
 {
     if parameter == 1 {
-        if !octets::is_rate(value) {
+        if !can::is_known_rate(value) {
             return codes::ERR_INVALID_IOCTL_VALUE;
         }
-        octets::put_word(&mut r[5..9], value);
+        integers::put_word(&mut r[5..9], value);
         return codes::STATUS_NOERROR;
     }
     if parameter == 3 {

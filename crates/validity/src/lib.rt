@@ -1,11 +1,11 @@
 // Is this a device memory? Each function decides what one part of the layout calls valid, and the cost grows with what is held.
+use can::id_limit;
+use can::is_flags;
+use can::is_known_rate;
+use can::takes_width;
+use integers::id_at;
+use integers::word_at;
 use octets::all_zero;
-use octets::id_at;
-use octets::id_limit;
-use octets::is_flags;
-use octets::is_rate;
-use octets::takes_width;
-use octets::word_at;
 ghost use mathlib.Core.Path.{_≡_};
 ghost use Prim.Native.Nat.{_+_, _*_, _/_, _^_, _<_, _≤_, min};
 ghost use lib.Dec.{eqb};
@@ -236,7 +236,7 @@ fn configuration(s: &[u8]) -> bool
     requires { ⌜ length (now s) ≡ 9 ⌝ }
     ensures { λ r. ⌜ r ≡ config .valid (now (s .entry)) ⌝ }
 {
-    (s[8] <= 1) & (is_flags(word_at(s, 0)) & is_rate(word_at(s, 4)))
+    (s[8] <= 1) & (is_flags(word_at(s, 0)) & is_known_rate(word_at(s, 4)))
 }
 
 // Periodics, at most 16 written records, at most one in flight.

@@ -1,6 +1,6 @@
 -- `validity::outgoing` meets its contract. Assumes nothing.
 use Rattle.validity.specs.Place.{fieldsOf}
-use Rattle.octets.proofs.Laws.{or-false}
+use mathlib.Core.Bool.{or-false}
 use Rattle.layout.specs.Record.{outgoing, widthFits}
 use Rattle.machine.specs.Message.{bit}
 use Rattle.codec.specs.Plain.{member}
@@ -9,7 +9,7 @@ use lib.Dec.{eqb}
 use Prim.Native.Nat.{ℕ}
 use mathlib.Core.List.{[], _∷_}
 use mathlib.Core.Bool.{Bool, _&&_, _||_}
-use mathlib.Core.Path.{ap, _∙_}
+use mathlib.Core.Path.{sym, ap, _∙_}
 use borrow.Author.Needs.{needs}
 use Rattle.validity.proofs.outgoing.Statement.{statement}
 use Rattle.validity.proofs.outgoing.Tie as tie
@@ -20,7 +20,7 @@ returns c = let first = c .before .before .before in
     let start = first .before .before in
     let tx : ℕ = first .word-at .result in
     let e = first .word-at .ensures .0 in
-    let width = ap (λ (b : Bool). eqb tx 0 || b) (or-false (eqb tx 0x100)) ∙ ap (λ (t : ℕ). member t (0 ∷ 0x100 ∷ [])) e in
+    let width = ap (λ (b : Bool). eqb tx 0 || b) (sym (or-false (eqb tx 0x100))) ∙ ap (λ (t : ℕ). member t (0 ∷ 0x100 ∷ [])) e in
     let fits = c .width-fits .ensures ∙ ap (λ (t : ℕ). widthFits (start .args .flags) (bit 0x100 t) (drop 24 (start .args .s .now))) e in
     λ j. eqb (c .before .before .word-at2 .ensures .0 j) 0 && width j && eqb (c .before .word-at3 .ensures .0 j) 0 && fits j
 

@@ -1,7 +1,7 @@
--- `message::width_flag` meets its contract, case by case. Assumes nothing.
+-- `can::width_flag` meets its contract, case by case. Assumes nothing.
 use Rattle.machine.specs.Message.{widthFlag}
-use Rattle.message.proofs.width_flag.Statement.{statement}
-use Rattle.message.proofs.width_flag.Tie as tie
+use Rattle.can.proofs.width_flag.Statement.{statement}
+use Rattle.can.proofs.width_flag.Tie as tie
 
 returns : tie.Need-returns
 unfolding widthFlag
