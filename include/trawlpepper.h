@@ -1,15 +1,17 @@
 /* Trawlpepper: the core of a four-line pass-thru box (SAE J2534-1, raw CAN), proved.
  *
  * All state is one memory of TRAWL_MEMORY bytes that you lend to every call; docs/LAYOUT.md names each byte of it. Calls keep nothing else,
- * allocate nothing and never block. A call's answer is a code (below); a number that goes with it comes back through a pointer, which is
- * always written: 0 where the call gives none.
+ * allocate nothing and never block. A call's answer is a code (below) and, for some, a number: a channel, a count, a value. The number comes
+ * back through a pointer. It is a part of the answer and no lent buffer: it is written by every call, refused ones too, and is 0 where the
+ * code gives none, so that no caller reads a count of an earlier call.
  *
  * Slices pass as a pointer and then a length in bytes. What C cannot check, you guarantee:
  *   - each pointer points to at least as many bytes as the length says (a length of 0 still wants a pointer that is not null);
  *   - what a call may write (the memory, a buffer that is not const, a number's pointer) overlaps nothing else that is lent to that call;
  *   - one thread at a time uses a memory.
  * Everything else is checked: any bytes, any lengths, any numbers are answered with a code, and a refused call changes neither the memory
- * nor any buffer.
+ * nor any lent buffer, not a byte of them. A refusal is every code but STATUS_NOERROR and the two results ERR_TIMEOUT and ERR_BUFFER_OVERFLOW;
+ * of a write whose count is above 0 any code is a result, and the records counted are queued.
  *
  *     static uint8_t box[TRAWL_MEMORY], record[TRAWL_RECORD];
  *     static const uint8_t every[TRAWL_RECORD] = {CAN, 0, 0, 0, 0, 0, 0, 0, 0, 0, 0, 0, 0, 0, 0, 0, 4};
