@@ -8,7 +8,7 @@
 #include "../twin/twin.h"
 #include "support.h"
 
-enum { REGION = 2498, EVENTS = 400 };
+enum { REGION = (TRAWL_MEMORY - 4) / 4, EVENTS = 400 };
 
 static unsigned long counted[KINDS + 1][0x20];
 
@@ -44,6 +44,7 @@ static reply both(event *e, uint64_t turn) {
     if (refused(e, a)) {
         if (memcmp(before, core, TRAWL_MEMORY)) fail("a refusal changed the memory", e, turn);
         if (memcmp(mine.first.room, e->first.room, sizeof mine.first.room)) fail("a refusal changed a buffer", e, turn);
+        if (a.value != 0) fail("a refusal gave a number", e, turn);
     }
     b = on_twin(twin, TRAWL_MEMORY, e);
     if (a.code != b.code) fail("code", e, turn);

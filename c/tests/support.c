@@ -167,9 +167,17 @@ void random_event(event *e, int damage) {
     }
 }
 
+/* a call that gives a number writes it whatever its code: it begins as one that no call gives */
+static uint32_t stale(int kind) {
+    switch (kind) {
+    case CONNECT: case START_FILTER: case START_PERIODIC: case WRITE: case READ: case GET: return 0xBADC0DEu;
+    default: return 0;
+    }
+}
+
 #define PLAY(side)                                                                                                                        \
     reply on_##side(uint8_t *m, size_t length, event *e) {                                                                                \
-        reply r = {0, 0};                                                                                                                 \
+        reply r = {0, stale(e->kind)};                                                                                                    \
         uint8_t *p = bytes(&e->first), *q = bytes(&e->second);                                                                            \
         size_t pn = e->first.n, qn = e->second.n;                                                                                         \
         switch (e->kind) {                                                                                                                \
