@@ -11,7 +11,6 @@ use borrow.Rule.Slice.PartMut.{putMid}
 use Rattle.codec.specs.Plain.{within}
 use Rattle.codec.specs.Word.{wordAt}
 use Rattle.codec.proofs.Tests.{true-T, within-low, within-high}
-use Rattle.machine.specs.Codes.{threeRates}
 use Rattle.machine.specs.Filter.{Slots, Filter, free, taken, has}
 use Rattle.machine.proofs.Slots.{has-place, has-none}
 use Rattle.machine.specs.Channel.{filterCode, filterOf, startFilter, stopFilter, says, Outcome, withFilters}
@@ -46,26 +45,26 @@ module _ (r : List ℕ) (f : Opened r) where
   moved : (ys : List ℕ) (i : ℕ) (x : Option Filter) → ((flags : ℕ) → ys ≡ filters flags .put (set (filters flags .get (take 270 (drop 10 r))) i x)) → ys ≡ filters (fl (openOf r)) .put (set (openOf r .filters) i x)
   moved ys i x e = e (fl (openOf r)) ∙ ap (λ (s : Slots Filter). filters (fl (openOf r)) .put (set s i x)) (held-is (fl (openOf r)))
 
-  module _ (t : ℕ) where
+  module _ (rates : List ℕ) (t : ℕ) where
     module _ (kind : ℕ) (mask pattern : List ℕ) where
-      pub not-started : (code : ℕ) → code ≡ filterCode (openOf r) kind mask pattern → (code ≡ 0 → ⊥) → gives code 0 [] r ≡ callOutcome threeRates t r (startFilter kind mask pattern)
-      not-started code e n = stays r f threeRates t (startFilter kind mask pattern) code 0 [] (start-refused threeRates t (openOf r) kind mask pattern code e n)
+      pub not-started : (code : ℕ) → code ≡ filterCode (openOf r) kind mask pattern → (code ≡ 0 → ⊥) → gives code 0 [] r ≡ callOutcome rates t r (startFilter kind mask pattern)
+      not-started code e n = stays r f rates t (startFilter kind mask pattern) code 0 [] (start-refused rates t (openOf r) kind mask pattern code e n)
 
       pub started : (place : ℕ) (ys : List ℕ) → 0 ≡ filterCode (openOf r) kind mask pattern → place ≡ free (openOf r .filters)
           → ((flags : ℕ) → ys ≡ filters flags .put (set (filters flags .get (take 270 (drop 10 r))) place (some (filterOf kind mask pattern))))
-          → gives 0 (place + 1) [] (putMid 10 270 r ys) ≡ callOutcome threeRates t r (startFilter kind mask pattern)
+          → gives 0 (place + 1) [] (putMid 10 270 r ys) ≡ callOutcome rates t r (startFilter kind mask pattern)
       started place ys e p y =
           let x = some (filterOf kind mask pattern) in
-          moves r f threeRates t (startFilter kind mask pattern) _ 0 (place + 1) [] _
-          (start-done threeRates t (openOf r) kind mask pattern e
+          moves r f rates t (startFilter kind mask pattern) _ 0 (place + 1) [] _
+          (start-done rates t (openOf r) kind mask pattern e
           ∙ ap {B = Outcome} (λ (k : ℕ). (withFilters (openOf r) (set (openOf r .filters) k x), says 0 (k + 1) [])) (sym p))
           (filters-part r f .becomes ys (set (openOf r .filters) place x) (moved ys place x y))
 
     module _ (number : ℕ) where
-      refused : has (openOf r .filters) number ≡ false → gives 0x16 0 [] r ≡ callOutcome threeRates t r (stopFilter number)
-      refused e = stays r f threeRates t (stopFilter number) 0x16 0 [] (stop-refused threeRates t (openOf r) number e)
+      refused : has (openOf r .filters) number ≡ false → gives 0x16 0 [] r ≡ callOutcome rates t r (stopFilter number)
+      refused e = stays r f rates t (stopFilter number) 0x16 0 [] (stop-refused rates t (openOf r) number e)
 
-      pub no-number : within 1 10 number ≡ false → gives 0x16 0 [] r ≡ callOutcome threeRates t r (stopFilter number)
+      pub no-number : within 1 10 number ≡ false → gives 0x16 0 [] r ≡ callOutcome rates t r (stopFilter number)
       no-number w = refused (has-none (openOf r .filters) number (ap (λ (k : ℕ). within 1 k number) ten-places ∙ w))
 
       module _ (w : within 1 10 number ≡ true) where
@@ -78,12 +77,12 @@ module _ (r : List ℕ) (f : Opened r) where
         held-here : (b : Bool) → ((flags : ℕ) → taken (getD (filters flags .get (take 270 (drop 10 r))) i none) ≡ b) → has (openOf r .filters) number ≡ b
         held-here b e = has-place (openOf r .filters) number i (omega (arith, place-of number w .0)) ∙ ap (λ (s : Slots Filter). taken (getD s i none)) (sym (held-is 0)) ∙ e 0
 
-        pub not-held : getD r (10 + i) 0 ≡ 0 → gives 0x16 0 [] r ≡ callOutcome threeRates t r (stopFilter number)
+        pub not-held : getD r (10 + i) 0 ≡ 0 → gives 0x16 0 [] r ≡ callOutcome rates t r (stopFilter number)
         not-held e = refused (held-here false (is-empty (take 270 (drop 10 r)) part-lent i (place-of number w .1) (sym here ∙ e)))
 
         pub stopped : (getD r (10 + i) 0 ≡ 0 → ⊥) → (ys : List ℕ) → ((flags : ℕ) → ys ≡ filters flags .put (set (filters flags .get (take 270 (drop 10 r))) i none))
-            → gives 0 0 [] (putMid 10 270 r ys) ≡ callOutcome threeRates t r (stopFilter number)
+            → gives 0 0 [] (putMid 10 270 r ys) ≡ callOutcome rates t r (stopFilter number)
         stopped n ys y =
-            moves r f threeRates t (stopFilter number) _ 0 0 [] _
-            (stop-done threeRates t (openOf r) number (held-here true (is-taken (take 270 (drop 10 r)) part-lent i (place-of number w .1) (λ e. n (here ∙ e)))))
+            moves r f rates t (stopFilter number) _ 0 0 [] _
+            (stop-done rates t (openOf r) number (held-here true (is-taken (take 270 (drop 10 r)) part-lent i (place-of number w .1) (λ e. n (here ∙ e)))))
             (filters-part r f .becomes ys (set (openOf r .filters) i none) (moved ys i none y))

@@ -1,11 +1,10 @@
 // The filters of a channel: which frames they let in, and how one is started and stopped.
 ghost use mathlib.Core.Path.{_≡_};
-ghost use mathlib.Core.List.{[]};
+ghost use mathlib.Core.List.{List, []};
 ghost use mathlib.Core.Option.{Option, some};
 ghost use Prim.Native.Nat.{ℕ, _+_, _≤_, _<_};
 ghost use lib.ListN.{length, getD, set, take, drop};
 ghost use Rattle.codec.specs.Plain.{within};
-ghost use Rattle.machine.specs.Codes.{threeRates};
 ghost use Rattle.machine.specs.Message.{twelve};
 ghost use Rattle.machine.specs.Filter.{Filter, free, passes};
 ghost use Rattle.machine.specs.Channel.{Open, filterCode, filterOf, startFilter, stopFilter};
@@ -176,7 +175,7 @@ fn put_filter(part: &mut [u8], i: usize, kind: u32, mask: &[u8], pattern: &[u8])
 // Start a filter on an open channel's region: its number is the smallest free one.
 pub fn start_filter(r: &mut [u8], kind: u32, mask: &[u8], pattern: &[u8]) -> Answer
     requires { ⌜ Opened (now r) ⌝ }
-    ensures { λ a. ⌜ ((t : ℕ) → gives (a .code) (a .value) [] (now (r .exit)) ≡ callOutcome threeRates t (now (r .entry)) (startFilter kind (now (mask .entry)) (now (pattern .entry)))) ⌝ }
+    ensures { λ a. ⌜ ((rates : List ℕ) (t : ℕ) → gives (a .code) (a .value) [] (now (r .exit)) ≡ callOutcome rates t (now (r .entry)) (startFilter kind (now (mask .entry)) (now (pattern .entry)))) ⌝ }
 {
     let place = first_free(&r[10..280]);
     let code = start_code(integers::word_at(r, 1), kind, mask, pattern, place);
@@ -196,7 +195,7 @@ pub fn start_filter(r: &mut [u8], kind: u32, mask: &[u8], pattern: &[u8]) -> Ans
 // Stop the filter of a number: its place is empty again.
 pub fn stop_filter(r: &mut [u8], number: u32) -> u32
     requires { ⌜ Opened (now r) ⌝ }
-    ensures { λ code. ⌜ ((t : ℕ) → gives code 0 [] (now (r .exit)) ≡ callOutcome threeRates t (now (r .entry)) (stopFilter number)) ⌝ }
+    ensures { λ code. ⌜ ((rates : List ℕ) (t : ℕ) → gives code 0 [] (now (r .exit)) ≡ callOutcome rates t (now (r .entry)) (stopFilter number)) ⌝ }
 {
     if !between(1, 10, number) {
         return codes::ERR_INVALID_FILTER_ID;

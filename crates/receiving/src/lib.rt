@@ -1,11 +1,10 @@
 // What is received: a record more in the queue of an open channel, or the lost mark; reading.
 use codes::Answer;
 ghost use mathlib.Core.Path.{_≡_};
-ghost use mathlib.Core.List.{_++_};
+ghost use mathlib.Core.List.{List, _++_};
 ghost use Prim.Native.Nat.{ℕ, min, _+_, _≤_};
 ghost use lib.Dec.{T, eqb};
 ghost use lib.ListN.{length, getD};
-ghost use Rattle.machine.specs.Codes.{threeRates};
 ghost use Rattle.machine.specs.Message.{widthFlag, idBytes, received};
 ghost use Rattle.machine.specs.Channel.{readCode};
 ghost use Rattle.machine.specs.Channel.{read as readOf};
@@ -98,7 +97,7 @@ fn read_code(lost: u8, n: u32, m: u32) -> u32
 // Read n records into a buffer, on the region of an open channel.
 pub fn read_in(r: &mut [u8], n: u32, buf: &mut [u8]) -> Answer
     requires { ⌜ Opened (now r) ⌝ }
-    ensures { λ a. ⌜ ((t : ℕ) → gives (a .code) (a .value) (now (buf .exit)) (now (r .exit)) ≡ callOutcome threeRates t (now (r .entry)) (readOf n (now (buf .entry)))) ⌝ }
+    ensures { λ a. ⌜ ((rates : List ℕ) (t : ℕ) → gives (a .code) (a .value) (now (buf .exit)) (now (r .exit)) ≡ callOutcome rates t (now (r .entry)) (readOf n (now (buf .entry)))) ⌝ }
 {
     if buf.len() < CELL * (n as usize) {
         return Answer {

@@ -3,7 +3,6 @@ use mathlib.Core.Path.{_≡_, ap, _∙_}
 use Prim.Native.Nat.{min}
 use native.Mathlib.Omega.{arith}
 use lib.ListN.{getD, take, drop}
-use Rattle.machine.specs.Codes.{threeRates}
 use Rattle.layout.proofs.Region.{openOf, receiving-part}
 use Rattle.receiving.proofs.Laws.{part-lent, read-short, read-none, read-some}
 use borrow.Author.Needs.{needs}
@@ -15,11 +14,11 @@ given c = c .fewest .ensures ∙ ap (min (c .before .before .before .before .bef
 
 returns : tie.Need-returns
 returns c = let start = c .before .before .before in
-    λ t. read-short (start .args .r .now) (start .pre) threeRates t (start .args .n) (start .args .buf .now) (c .if1 .taken)
+    λ rates t. read-short (start .args .r .now) (start .pre) rates t (start .args .n) (start .args .buf .now) (c .if1 .taken)
 
 returns-2 : tie.Need-returns-2
 returns-2 c = let start = c .before .before .before .before in
-    λ t. read-none (start .args .r .now) (start .pre) threeRates t (start .args .n) (start .args .buf .now) (c .before .if1 .left) (c .if2 .taken)
+    λ rates t. read-none (start .args .r .now) (start .pre) rates t (start .args .n) (start .args .buf .now) (c .before .if1 .left) (c .if2 .taken)
 
 part-copy-end-2 : tie.Need-part-copy-end-2
 part-copy-end-2 c = let start = c .before .before .before .before .before .before .before .before .before .before .before .before in omega (arith, given (c .before .before .before .before), part-lent (start .args .r .now) (start .pre) 0 (omega arith))
@@ -32,7 +31,7 @@ returns-3 c =
     let start = c .before .before .before .before .before .before .before .before .before .before .before .before .before .before .before .before .before .before .before in
     let r = start .args .r .now in
     let gone = c .before .before .drop-oldest in
-    λ t. read-some r (start .pre) threeRates t (start .args .n) (start .args .buf .now) (c .before .before .before .before .before .before .before .before .before .before .before .before .before .before .before .before .if1 .left) (c .before .before .before .before .before .before .before .before .before .before .before .before .before .before .before .if2 .left) _ _ (c .before .before .before .before .before .copy .last .0) (gone .last .0)
+    λ rates t. read-some r (start .pre) rates t (start .args .n) (start .args .buf .now) (c .before .before .before .before .before .before .before .before .before .before .before .before .before .before .before .before .if1 .left) (c .before .before .before .before .before .before .before .before .before .before .before .before .before .before .before .if2 .left) _ _ (c .before .before .before .before .before .copy .last .0) (gone .last .0)
     (given (c .before .before .before .before .before .before .before .before .before .before .before)) (c .before .before .before .before .before .before .before .before .before .read-code .ensures) (c .before .before .before .before .before .copy .ensures) (gone .ensures (openOf r .config .flags) (receiving-part r (start .pre) .valid))
 
 pub read-in-spec : {M : Type 1} → statement M
