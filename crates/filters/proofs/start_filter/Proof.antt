@@ -9,8 +9,9 @@ use borrow.Author.Needs.{needs}
 use Rattle.machine.specs.Filter.{free}
 use Rattle.machine.specs.Channel.{filterCode}
 use Rattle.layout.proofs.Region.{openOf}
+use Rattle.filterbank.proofs.Lent.{part-lent, held-is}
 use Rattle.filters.proofs.Steps.{room, checked}
-use Rattle.filters.proofs.OnRegion.{part-lent, held-is, flags-are, not-started, started}
+use Rattle.filters.proofs.OnRegion.{flags-are, not-started, started}
 use Rattle.filters.proofs.start_filter.Statement.{statement}
 use Rattle.filters.proofs.start_filter.Tie as tie
 
@@ -35,7 +36,7 @@ returns : tie.Need-returns
 returns c =
     let s = c .before in
     let start = s .before .before .before .before .before .before .before .before .before in
-    λ t. not-started (now (start .args .r)) (start .pre) t (start .args .kind) (now (start .args .mask)) (now (start .args .pattern)) (s .start-code .result) (code-is s) (c .if1 .taken)
+    λ rates t. not-started (now (start .args .r)) (start .pre) rates t (start .args .kind) (now (start .args .mask)) (now (start .args .pattern)) (s .start-code .result) (code-is s) (c .if1 .taken)
 
 -- nothing refuses the start
 good : (e : tie.Else1) → let start = e .before .before .before .before .before .before .before .before .before .before in
@@ -68,8 +69,8 @@ returns-2 c =
     let put = c .before .before in
     let e = put .before .before in
     let start = e .before .before .before .before .before .before .before .before .before .before in
-    λ t.
-    started (now (start .args .r)) (start .pre) t (start .args .kind) (now (start .args .mask)) (now (start .args .pattern)) (e .before .before .before .before .first-free .result)
+    λ rates t.
+    started (now (start .args .r)) (start .pre) rates t (start .args .kind) (now (start .args .mask)) (now (start .args .pattern)) (e .before .before .before .before .first-free .result)
     (put .put-filter .last .0) (good e) (place-is (e .before)) (put .put-filter .ensures)
 
 pub start-filter-spec : {M : Type 1} → statement M

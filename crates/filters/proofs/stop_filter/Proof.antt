@@ -7,7 +7,8 @@ use denote.Ref.{now}
 use borrow.Author.Needs.{needs}
 use borrow.Author.Tests.{not-true, not-false}
 use Rattle.codec.specs.Plain.{within}
-use Rattle.filters.proofs.OnRegion.{place-of, part-lent, no-number, not-held, stopped}
+use Rattle.filterbank.proofs.Lent.{part-lent}
+use Rattle.filters.proofs.OnRegion.{place-of, no-number, not-held, stopped}
 use Rattle.filters.proofs.stop_filter.Statement.{statement}
 use Rattle.filters.proofs.stop_filter.Tie as tie
 
@@ -18,7 +19,7 @@ one-of-ten c = sym (c .before .between .ensures) ∙ not-false _ (c .if1 .left)
 returns : tie.Need-returns
 returns c =
     let start = c .before .before .before in
-    λ t. no-number (now (start .args .r)) (start .pre) t (start .args .number) (sym (c .before .between .ensures) ∙ not-true _ (c .if1 .taken))
+    λ rates t. no-number (now (start .args .r)) (start .pre) rates t (start .args .number) (sym (c .before .between .ensures) ∙ not-true _ (c .if1 .taken))
 
 sub-i : tie.Need-sub-i
 sub-i c = omega (arith, place-of _ (one-of-ten c) .0)
@@ -30,7 +31,7 @@ returns-2 : tie.Need-returns-2
 returns-2 c =
     let at = c .before .before in
     let start = at .before .before .before in
-    λ t. not-held (now (start .args .r)) (start .pre) t (start .args .number) (one-of-ten at) (c .if2 .taken)
+    λ rates t. not-held (now (start .args .r)) (start .pre) rates t (start .args .number) (one-of-ten at) (c .if2 .taken)
 
 put-place-requires : tie.Need-put-place-requires
 put-place-requires c κs =
@@ -43,8 +44,8 @@ returns-3 c =
     let put = c .before .before in
     let at = put .before .before .before .before .before .before in
     let start = at .before .before .before in
-    λ t.
-    stopped (now (start .args .r)) (start .pre) t (start .args .number) (one-of-ten at) (put .before .before .before .before .if2 .left)
+    λ rates t.
+    stopped (now (start .args .r)) (start .pre) rates t (start .args .number) (one-of-ten at) (put .before .before .before .before .if2 .left)
     (put .put-place .last .0) (λ flags. put .put-place .ensures flags none refl)
 
 pub stop-filter-spec : {M : Type 1} → statement M
