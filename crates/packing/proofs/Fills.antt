@@ -11,8 +11,8 @@ use Rattle.codec.specs.Word.{word}
 use Rattle.codec.specs.Plain.{zeros}
 use Rattle.telegram.specs.Telegram.{AnyTelegram}
 use Rattle.telegram.proofs.Tests.{listed}
-use Rattle.tp20.specs.declared.Named.{Named}
-use Rattle.tp20.specs.Face.{naming, padded, carriedBy, over, refusal}
+use Rattle.telegram_types.specs.declared.Named.{Named}
+use Rattle.telegram_types.specs.Face.{naming, padded, carriedBy, over, refusal}
 use Rattle.packing.specs.Record.{words, packed, recordOf, gave, recorded, reading}
 
 -- what is carried, then the kind and the five fields before it

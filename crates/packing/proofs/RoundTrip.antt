@@ -17,7 +17,7 @@ use Rattle.telegram.specs.Bits.{if_then_else_, bitValue, within, areBytes}
 use Rattle.telegram.specs.Telegram.{AnyTelegram, opening, channel, setUp, positive, negative, dataTelegram, acknowledge, connection, test, breakOff, disconnection, isOpeningId, isDestination, isId, isNegative, anyFits, openingFits, fieldsFit, fits, anyBytes, comes, readAny}
 use Rattle.telegram.proofs.Tests.{both, together, tested, let-through, passed, bit-small}
 use Rattle.telegram.proofs.RoundTrip.{any-exact}
-use Rattle.tp20.specs.Face.{Wrote, numbersOf, carriedBy, padded, over, done, refusal}
+use Rattle.telegram_types.specs.Face.{Wrote, numbersOf, carriedBy, padded, over, done, refusal}
 use Rattle.packing.specs.Record.{words, packed, recordOf, gave, recorded, reading, countIn, carriedIn, setUpIn, positiveIn, negativeIn, dataIn, acknowledgeIn, connectionIn, aloneIn, openingIn, channelIn, kept, telegramIn, unpacked, writing}
 use Rattle.packing.proofs.Says.{application-small}
 

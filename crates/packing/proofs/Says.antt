@@ -12,12 +12,12 @@ use borrow.Author.Tests.{leb-true, le-leb, eqb-true, le-ltb}
 use Rattle.telegram.specs.Bits.{onlyIf, within}
 use Rattle.telegram.specs.Telegram.{AnyTelegram, opening, channel, setUp, positive, negative, dataTelegram, acknowledge, connection, test, breakOff, disconnection, isOpeningId, isDestination, isId, isApplication, isNegative, anyFits, openingFits, fieldsFit, fits, anyBytes, openingBytes, onWire}
 use Rattle.telegram.proofs.Tests.{both, together, either, tested, stopped}
-use Rattle.tp20.specs.declared.Taken.{Taken}
-use Rattle.tp20.specs.declared.Taken.the-variants.{Yes, No}
-use Rattle.tp20.specs.declared.Telegram.{Telegram}
-use Rattle.tp20.specs.declared.Written.{Written}
-use Rattle.tp20.specs.Face.{Wrote, wrote, said, takenSaid, writtenIf, refusal, done}
-use Rattle.tp20.specs.Face.{writing as tells}
+use Rattle.telegram_types.specs.declared.Taken.{Taken}
+use Rattle.telegram_types.specs.declared.Taken.the-variants.{Yes, No}
+use Rattle.telegram_types.specs.declared.Telegram.{Telegram}
+use Rattle.telegram_types.specs.declared.Written.{Written}
+use Rattle.telegram_types.specs.Face.{Wrote, wrote, said, takenSaid, writtenIf, refusal, done}
+use Rattle.telegram_types.specs.Face.{writing as tells}
 use Rattle.packing.specs.Record.{kept, countIn, carriedIn, telegramIn, unpacked, writing, gave}
 
 -- a number up to k is whole after narrowing to m numbers

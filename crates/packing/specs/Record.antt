@@ -9,7 +9,7 @@ use lib.Dec.{eqb, leb, ltb}
 use Rattle.codec.specs.Word.{word, wordAt}
 use Rattle.telegram.specs.Bits.{if_then_else_, onlyIf}
 use Rattle.telegram.specs.Telegram.{AnyTelegram, opening, channel, setUp, positive, negative, dataTelegram, acknowledge, connection, test, breakOff, disconnection, anyFits, anyBytes}
-use Rattle.tp20.specs.Face.{Wrote, numbersOf, carriedBy, padded, over, done, refusal}
+use Rattle.telegram_types.specs.Face.{Wrote, numbersOf, carriedBy, padded, over, done, refusal}
 
 -- the four bytes of each number
 unfoldable pub words : List ℕ → List ℕ

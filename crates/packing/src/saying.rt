@@ -5,7 +5,7 @@ ghost use mathlib.Core.Option.{some};
 ghost use Prim.Native.Nat.{ℕ, _%_, _≤_};
 ghost use lib.ListN.{length};
 ghost use Rattle.telegram.specs.Bits.{onlyIf};
-ghost use Rattle.tp20.specs.Face.{said, takenSaid};
+ghost use Rattle.telegram_types.specs.Face.{said, takenSaid};
 ghost use Rattle.packing.specs.Record.{kept, carriedIn, setUpIn, positiveIn, negativeIn, dataIn, acknowledgeIn, connectionIn, aloneIn, openingIn, channelIn, telegramIn};
 use octets::low;
 use octets::word_at;

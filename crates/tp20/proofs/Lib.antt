@@ -1,4 +1,1 @@
-pub mod CopyLoop
-pub mod Answers
-pub mod Writes
 pub mod RoundTrip

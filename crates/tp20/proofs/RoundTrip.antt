@@ -16,18 +16,18 @@ use Rattle.telegram.specs.Telegram.{AnyTelegram, anyFits, anyBytes, comes, read
 use Rattle.telegram.specs.Telegram as T
 use Rattle.telegram.proofs.Tests.{both, together, tested}
 use Rattle.telegram.proofs.RoundTrip.{any-exact}
-use Rattle.tp20.specs.declared.Opening.{Opening}
-use Rattle.tp20.specs.declared.Opening.the-variants.{SetUp, Positive, Negative}
-use Rattle.tp20.specs.declared.OnChannel.{OnChannel}
-use Rattle.tp20.specs.declared.OnChannel.the-variants.{Data, Acknowledge, Connection, Test, Break, Disconnect}
-use Rattle.tp20.specs.declared.Telegram.{Telegram}
-use Rattle.tp20.specs.declared.Telegram.the-variants.{Opening as opens, Channel as travels}
-use Rattle.tp20.specs.declared.Taken.{Taken}
-use Rattle.tp20.specs.declared.Taken.the-variants.{Yes, No}
-use Rattle.tp20.specs.declared.Answer.{Answer}
-use Rattle.tp20.specs.declared.Written.{Written}
-use Rattle.tp20.specs.Face.{Told, told, takenSaid, said, openingSaid, channelSaid, answering, Wrote, wrote, writing, writtenIf, done, refusal, over}
-use Rattle.tp20.proofs.Answers.{answered}
+use Rattle.telegram_types.specs.declared.Opening.{Opening}
+use Rattle.telegram_types.specs.declared.Opening.the-variants.{SetUp, Positive, Negative}
+use Rattle.telegram_types.specs.declared.OnChannel.{OnChannel}
+use Rattle.telegram_types.specs.declared.OnChannel.the-variants.{Data, Acknowledge, Connection, Test, Break, Disconnect}
+use Rattle.telegram_types.specs.declared.Telegram.{Telegram}
+use Rattle.telegram_types.specs.declared.Telegram.the-variants.{Opening as opens, Channel as travels}
+use Rattle.telegram_types.specs.declared.Taken.{Taken}
+use Rattle.telegram_types.specs.declared.Taken.the-variants.{Yes, No}
+use Rattle.telegram_types.specs.declared.Answer.{Answer}
+use Rattle.telegram_types.specs.declared.Written.{Written}
+use Rattle.telegram_types.specs.Face.{Told, told, takenSaid, said, openingSaid, channelSaid, answering, Wrote, wrote, writing, writtenIf, done, refusal, over}
+use Rattle.telegram_answers.proofs.Answers.{answered}
 
 -- what is written of a telegram that fits
 put-down : (t : AnyTelegram) (buffer : List ℕ) → 8 ≤ length buffer → anyFits t ≡ true → writing t buffer ≡ done (anyBytes t) buffer

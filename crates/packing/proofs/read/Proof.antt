@@ -5,7 +5,7 @@ use native.Mathlib.Omega.{arith}
 use lib.ListN.{length}
 use lib.Seq.{length-take-le}
 use borrow.Author.Tests.{lt-ltb}
-use Rattle.tp20.specs.Face.{refusal}
+use Rattle.telegram_types.specs.Face.{refusal}
 use Rattle.packing.specs.Record.{reading}
 use Rattle.packing.proofs.Fills.{few, unread, crossed}
 use borrow.Author.Needs.{needs}

@@ -1,7 +1,7 @@
 -- `packing::write` meets its contract. Assumes nothing.
 use native.Mathlib.Omega.{arith}
 use borrow.Author.Tests.{lt-ltb, le-ltb}
-use Rattle.tp20.specs.Face.{refusal}
+use Rattle.telegram_types.specs.Face.{refusal}
 use Rattle.packing.specs.Record.{writing, unpacked}
 use Rattle.packing.proofs.Says.{unsaid, said-written, carried-part, short-write}
 use borrow.Author.Needs.{needs}

@@ -1,6 +1,6 @@
 -- `packing::saying::alone` meets its contract. Assumes nothing.
 use borrow.Author.Tests.{eq-eqb, ne-eqb}
-use Rattle.tp20.specs.Face.{said, channelSaid, takenSaid}
+use Rattle.telegram_types.specs.Face.{said, channelSaid, takenSaid}
 use Rattle.packing.specs.Record.{aloneIn}
 use Rattle.packing.proofs.saying.alone.Statement.{statement}
 use Rattle.packing.proofs.saying.alone.Tie as tie

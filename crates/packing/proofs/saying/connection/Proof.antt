@@ -1,6 +1,6 @@
 -- `packing::saying::connection` meets its contract. Assumes nothing.
 use mathlib.Core.Path.{ap, _∙_}
-use Rattle.tp20.specs.Face.{said, channelSaid}
+use Rattle.telegram_types.specs.Face.{said, channelSaid}
 use Rattle.packing.specs.Record.{kept, carriedIn, connectionIn}
 use Rattle.packing.proofs.Says.{connection-narrowed}
 use borrow.Author.Needs.{needs}

@@ -1,6 +1,6 @@
 -- `packing::saying::data` meets its contract. Assumes nothing.
 use mathlib.Core.Path.{ap, _∙_}
-use Rattle.tp20.specs.Face.{said, channelSaid}
+use Rattle.telegram_types.specs.Face.{said, channelSaid}
 use Rattle.packing.specs.Record.{kept, carriedIn, dataIn, countIn}
 use Rattle.packing.proofs.Says.{data-narrowed}
 use borrow.Author.Needs.{needs}

@@ -1,7 +1,7 @@
 -- `packing::saying::only_if` meets its contract. Assumes nothing.
 use mathlib.Core.Path.{sym}
 use Rattle.telegram.proofs.Tests.{let-through, stopped}
-use Rattle.tp20.specs.Face.{takenSaid}
+use Rattle.telegram_types.specs.Face.{takenSaid}
 use Rattle.packing.proofs.saying.only_if.Statement.{statement}
 use Rattle.packing.proofs.saying.only_if.Tie as tie
 

@@ -1,6 +1,6 @@
 -- `packing::saying::set_up` meets its contract. Assumes nothing.
 use mathlib.Core.Path.{ap, _∙_}
-use Rattle.tp20.specs.Face.{said, openingSaid}
+use Rattle.telegram_types.specs.Face.{said, openingSaid}
 use Rattle.packing.specs.Record.{kept, carriedIn, setUpIn}
 use Rattle.packing.proofs.Says.{set-up-narrowed}
 use borrow.Author.Needs.{needs}
