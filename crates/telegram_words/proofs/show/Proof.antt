@@ -1,10 +1,10 @@
--- `telegrams::show` meets its contract, which says nothing. Assumes nothing.
+-- `telegram_words::show` meets its contract, which says nothing. Assumes nothing.
 use Prim.Native.Nat.{_-_}
 use native.Mathlib.Omega.{arith}
 use borrow.Author.Needs.{needs}
 use lib.ListN.{length}
-use Rattle.telegrams.proofs.show.Statement.{statement}
-use Rattle.telegrams.proofs.show.Tie as tie
+use Rattle.telegram_words.proofs.show.Statement.{statement}
+use Rattle.telegram_words.proofs.show.Tie as tie
 
 abbrev Inv-loop : tie.InvT-loop
 Inv-loop bytes i₀ i = Unit {0}

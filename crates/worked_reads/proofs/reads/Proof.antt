@@ -1,9 +1,9 @@
--- `telegrams::reads` meets its contract, which says nothing. Assumes nothing.
+-- `worked_reads::reads` meets its contract, which says nothing. Assumes nothing.
 use Prim.Native.Nat.{_-_}
 use native.Mathlib.Omega.{arith}
 use borrow.Author.Needs.{needs}
-use Rattle.telegrams.proofs.reads.Statement.{statement}
-use Rattle.telegrams.proofs.reads.Tie as tie
+use Rattle.worked_reads.proofs.reads.Statement.{statement}
+use Rattle.worked_reads.proofs.reads.Tie as tie
 
 abbrev Inv-loop : tie.InvT-loop
 Inv-loop i₀ i = Unit {0}
