@@ -1,29 +1,16 @@
--- Laws on records of telegrams: how one is put together, and what the reader leaves. Assumes nothing.
-use Prim.Native.Nat.{ℕ, _+_, _-_, _≤_}
-use mathlib.Core.Path.{_≡_, sym, ap, _∙_}
+-- Laws on what the reader leaves: the record of a telegram over the start of a buffer. Assumes nothing.
+use Prim.Native.Nat.{ℕ, _-_, _≤_}
+use mathlib.Core.Path.{_≡_, ap, _∙_}
 use mathlib.Core.Option.{Option, none, some}
-use mathlib.Core.List.{List, _∷_, _++_}
+use mathlib.Core.List.{List, _++_}
 use native.Mathlib.Omega.{arith}
-use lib.ListN.{length, getD, drop, length-append, length-replicate}
+use lib.ListN.{length, drop, length-append, length-replicate}
 use borrow.Author.Tests.{le-ltb}
-use borrow.Rule.Slice.PartMut.{putMid}
-use Rattle.codec.specs.Word.{word}
-use Rattle.codec.specs.Plain.{zeros}
 use Rattle.telegram.specs.Telegram.{AnyTelegram}
-use Rattle.telegram.proofs.Tests.{listed}
-use Rattle.tp20.specs.declared.Named.{Named}
-use Rattle.tp20.specs.Face.{naming, padded, carriedBy, over, refusal}
-use Rattle.packing.specs.Record.{words, packed, recordOf, gave, recorded, reading}
-
--- what is carried, then the kind and the five fields before it
-pub put-all : (kind n : ℕ) (fields seven a b c d e f g : List ℕ) → length fields ≡ 5 → a ≡ zeros 24 ++ n ∷ seven
-    → b ≡ putMid 0 4 a (word kind)
-    → c ≡ putMid 4 4 b (word (getD fields 0 0)) → d ≡ putMid 8 4 c (word (getD fields 1 0)) → e ≡ putMid 12 4 d (word (getD fields 2 0))
-    → f ≡ putMid 16 4 e (word (getD fields 3 0)) → g ≡ putMid 20 4 f (word (getD fields 4 0))
-    → g ≡ packed kind fields n seven
-unfolding packed words word
-put-all kind n fields seven a b c d e f g five p0 p1 p2 p3 p4 p5 p6 =
-    rw (p6, p5, p4, p3, p2, p1, p0) (ap (λ (l : List ℕ). packed kind l n seven) (sym (listed fields 5 five)))
+use Rattle.telegram_types.specs.declared.Named.{Named}
+use Rattle.telegram_types.specs.Face.{naming, padded, carriedBy, over, refusal}
+use Rattle.telegram_record.specs.Record.{packed, recordOf}
+use Rattle.packing.specs.Crossing.{gave, recorded, reading}
 
 -- no more than seven bytes are carried
 pub few : (x : Option AnyTelegram) (m : Named) → m ≡ naming x → length (m .payload) ≡ 7 → m .len ≤ 7

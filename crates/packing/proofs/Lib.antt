@@ -1,3 +1,4 @@
 pub mod Fills
 pub mod Says
 pub mod RoundTrip
+pub mod Settled

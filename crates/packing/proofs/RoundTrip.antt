@@ -1,8 +1,8 @@
 -- The round trips through records: what the reader gives is written as the same bytes, and what the writer writes is read as the same telegram.
 -- Assumes nothing.
-use Prim.Native.Nat.{ℕ, zero, suc, _+_, _*_, _-_, _/_, _^_, _≤_, _<_, min}
+use Prim.Native.Nat.{ℕ, zero, suc, _+_, _*_, _-_, _^_, _≤_, _<_, min}
 use mathlib.Core.Path.{_≡_, refl, sym, ap, _∙_}
-use mathlib.Core.Bool.{Bool, true, false}
+use mathlib.Core.Bool.{Bool, true, false, _||_}
 use mathlib.Core.Option.{Option, none, some, Option·none-ne-some}
 use mathlib.Core.List.{List, [], _∷_, _++_, append-assoc}
 use native.Mathlib.Nat.{not-suc-le-zero, le-of-suc-le-suc}
@@ -17,9 +17,11 @@ use Rattle.telegram.specs.Bits.{if_then_else_, bitValue, within, areBytes}
 use Rattle.telegram.specs.Telegram.{AnyTelegram, opening, channel, setUp, positive, negative, dataTelegram, acknowledge, connection, test, breakOff, disconnection, isOpeningId, isDestination, isId, isNegative, anyFits, openingFits, fieldsFit, fits, anyBytes, comes, readAny}
 use Rattle.telegram.proofs.Tests.{both, together, tested, let-through, passed, bit-small}
 use Rattle.telegram.proofs.RoundTrip.{any-exact}
-use Rattle.tp20.specs.Face.{Wrote, numbersOf, carriedBy, padded, over, done, refusal}
-use Rattle.packing.specs.Record.{words, packed, recordOf, gave, recorded, reading, countIn, carriedIn, setUpIn, positiveIn, negativeIn, dataIn, acknowledgeIn, connectionIn, aloneIn, openingIn, channelIn, kept, telegramIn, unpacked, writing}
-use Rattle.packing.proofs.Says.{application-small}
+use Rattle.telegram_types.specs.Face.{Wrote, numbersOf, carriedBy, padded, over, done, refusal}
+use Rattle.telegram_record.specs.Record.{words, packed, recordOf, countIn, carriedIn, setUpIn, positiveIn, negativeIn, dataIn, acknowledgeIn, connectionIn, aloneIn, openingIn, channelIn, kept, telegramIn}
+use Rattle.packing.specs.Crossing.{gave, recorded, reading, unpacked, writing}
+use Rattle.telegram_record.proofs.Narrowed.{application-small}
+use Rattle.opening_record.proofs.Openings.{kinds}
 
 -- ---- what stands in a record, with anything behind it
 
@@ -84,7 +86,7 @@ bit-bounded b = bounded (bitValue b) 1 (omega arith) (flag-small b)
 -- the kinds of a connection set-up and acknowledge are those of neither before them
 either-kind : (ack : Bool) (w x y z : Option AnyTelegram) (c : Bool → AnyTelegram)
     → (let k : ℕ = 0xA0 + bitValue ack in
-    if leb 0xC0 k then w else if eqb k 0x00 then x else if eqb k 0x90 then y else if eqb (k / 2) 0x50 then some (c (eqb k 0xA1)) else z)
+    if leb 0xC0 k then w else if eqb k 0x00 then x else if eqb k 0x90 then y else if eqb k 0xA0 || eqb k 0xA1 then some (c (eqb k 0xA1)) else z)
     ≡ some (c ack)
 either-kind true w x y z c = refl
 either-kind false w x y z c = refl
@@ -136,6 +138,7 @@ says-back (opening id (negative d kind l)) rest fit =
       le-leb 0xC0 kind (omega arith),
       ne-eqb kind 0xC0 (λ x. omega arith),
       ne-eqb kind 0xD0 (λ x. omega arith),
+      sym (kinds kind) ∙ q .0,
     )
     (allowed (opening id (negative d kind l)) fit)
 says-back (channel (dataTelegram asks last sn l)) rest fit =

@@ -1,16 +1,16 @@
 // Telegrams as records of 32 bytes, as they cross to C.
 ghost use mathlib.Core.Path.{_≡_};
-ghost use Prim.Native.Nat.{min};
+ghost use Prim.Native.Nat.{min, _≤_};
+ghost use lib.ListN.{length};
 ghost use Rattle.telegram.specs.Telegram.{readAny};
-ghost use Rattle.packing.specs.Record.{gave, reading, writing};
+ghost use Rattle.telegram_types.specs.Face.{takenSaid};
+ghost use Rattle.telegram_record.specs.Record.{kept, carriedIn, telegramIn};
+ghost use Rattle.packing.specs.Crossing.{gave, reading, writing};
 use codes::Answer;
 use codes::ERR_INVALID_MSG;
 use codes::ERR_NULL_PARAMETER;
 use codes::STATUS_NOERROR;
 use tp20::Taken;
-
-mod filling; // filling.rt: a telegram's numbers into a record
-mod saying; // saying.rt: the telegram that a record says
 
 // The size of a record in bytes.
 pub const RECORD: usize = 32;
@@ -32,9 +32,20 @@ pub fn read(opening: bool, identifier: u32, bytes: &[u8], telegram: &mut [u8]) -
     }
     let fields = named.fields;
     let payload = named.payload;
-    let record = filling::pack(named.kind, fields, named.len as u8, payload);
+    let record = telegram_record::pack(named.kind, fields, named.len as u8, payload);
     octets::copy(&mut telegram[..32], &record);
     STATUS_NOERROR
+}
+
+// The telegram that a record says, where the tables allow it.
+fn telegram_in(bytes: &[u8]) -> Taken
+    requires { ⌜ 32 ≤ length (now bytes) ⌝ }
+    ensures { λ r. ⌜ kept (takenSaid r (carriedIn (now (bytes .entry)))) ≡ telegramIn (now (bytes .entry)) ⌝ }
+{
+    if integers::word_at(bytes, 0) >= 0xC0 {
+        return opening_record::opening(bytes);
+    }
+    channel_record::channel(bytes)
 }
 
 // How many of the seven bytes are carried.
@@ -61,7 +72,7 @@ pub fn write(telegram: &[u8], buffer: &mut [u8]) -> Answer
     if buffer.len() < ROOM {
         return refused(ERR_NULL_PARAMETER);
     }
-    let taken = saying::telegram(telegram);
+    let taken = telegram_in(telegram);
     let Taken::Yes(said) = taken else {
         return refused(ERR_INVALID_MSG);
     };

@@ -1,4 +1,2 @@
-pub mod CopyLoop
-pub mod Answers
-pub mod Writes
 pub mod RoundTrip
+pub mod Settled

@@ -1,10 +1,10 @@
--- The round trips carried to the reader and the writer, over whatever meets their promises; and that the promises leave no choice.
+-- The round trips carried to the reader and the writer, over whatever meets their promises.
 -- Assumes nothing.
 use Prim.Native.Nat.{ℕ, _≤_}
-use mathlib.Core.Path.{_≡_, refl, sym, ap, _∙_}
+use mathlib.Core.Path.{_≡_, sym, ap, _∙_}
 use mathlib.Core.Bool.{Bool, true}
 use mathlib.Core.Logic.{_⊎_, inl, inr}
-use mathlib.Core.Option.{Option, none, some}
+use mathlib.Core.Option.{some}
 use mathlib.Core.List.{List}
 use native.Mathlib.Omega.{arith}
 use lib.ListN.{length, take}
@@ -13,21 +13,14 @@ use lib.Seq.{take-append-seam}
 use borrow.Author.Tests.{le-ltb}
 use Rattle.telegram.specs.Bits.{areBytes}
 use Rattle.telegram.specs.Telegram.{AnyTelegram, anyFits, anyBytes, comes, readAny}
-use Rattle.telegram.specs.Telegram as T
 use Rattle.telegram.proofs.Tests.{both, together, tested}
 use Rattle.telegram.proofs.RoundTrip.{any-exact}
-use Rattle.tp20.specs.declared.Opening.{Opening}
-use Rattle.tp20.specs.declared.Opening.the-variants.{SetUp, Positive, Negative}
-use Rattle.tp20.specs.declared.OnChannel.{OnChannel}
-use Rattle.tp20.specs.declared.OnChannel.the-variants.{Data, Acknowledge, Connection, Test, Break, Disconnect}
-use Rattle.tp20.specs.declared.Telegram.{Telegram}
-use Rattle.tp20.specs.declared.Telegram.the-variants.{Opening as opens, Channel as travels}
-use Rattle.tp20.specs.declared.Taken.{Taken}
-use Rattle.tp20.specs.declared.Taken.the-variants.{Yes, No}
-use Rattle.tp20.specs.declared.Answer.{Answer}
-use Rattle.tp20.specs.declared.Written.{Written}
-use Rattle.tp20.specs.Face.{Told, told, takenSaid, said, openingSaid, channelSaid, answering, Wrote, wrote, writing, writtenIf, done, refusal, over}
-use Rattle.tp20.proofs.Answers.{answered}
+use Rattle.telegram_types.specs.declared.Telegram.{Telegram}
+use Rattle.telegram_types.specs.declared.Taken.the-variants.{Yes}
+use Rattle.telegram_types.specs.declared.Answer.{Answer}
+use Rattle.telegram_types.specs.declared.Written.{Written}
+use Rattle.telegram_types.specs.Face.{told, takenSaid, said, answering, Wrote, wrote, writing, writtenIf, done, refusal, over}
+use Rattle.telegram_answers.proofs.Answers.{answered}
 
 -- what is written of a telegram that fits
 put-down : (t : AnyTelegram) (buffer : List ℕ) → 8 ≤ length buffer → anyFits t ≡ true → writing t buffer ≡ done (anyBytes t) buffer
@@ -85,54 +78,3 @@ refused-write t w before after e bad =
     (λ room. tested (anyFits t)
     (λ fit. absurd (bad (ap (λ (y : Wrote). y .code) (rw (room, fit) at e))))
     (λ misfit. let h = rw (room, misfit) at e in (inr (ap (λ (y : Wrote). y .code) h), ap (λ (y : Wrote). y .len) h, ap (λ (y : Wrote). y .buffer) h)))
-
--- ---- the promises leave no choice
-
--- the case of the enum that says a telegram
-openingCase : T.Opening → Opening
-openingCase (T.setUp d rx app) = SetUp d rx app
-openingCase (T.positive d tx rx app) = Positive d tx rx app
-openingCase (T.negative d kind rest) = Negative d kind
-
-channelCase : T.Telegram → OnChannel
-channelCase (T.dataTelegram asks last sn bytes) = Data asks last sn
-channelCase (T.acknowledge ready sn) = Acknowledge ready sn
-channelCase (T.connection ack bs t1 t3) = Connection ack bs t1 t3
-channelCase T.test = Test
-channelCase T.breakOff = Break
-channelCase T.disconnection = Disconnect
-
-takenCase : Option AnyTelegram → Taken
-takenCase none = No
-takenCase (some (T.opening id o)) = Yes (opens id (openingCase o))
-takenCase (some (T.channel t)) = Yes (travels (channelCase t))
-
-takenCase-said : (k : Taken) (bytes : List ℕ) → takenCase (takenSaid k bytes) ≡ k
-unfolding takenCase takenSaid said openingSaid channelSaid openingCase channelCase
-takenCase-said No bytes = refl
-takenCase-said (Yes (opens id (SetUp d rx app))) bytes = refl
-takenCase-said (Yes (opens id (Positive d tx rx app))) bytes = refl
-takenCase-said (Yes (opens id (Negative d kind))) bytes = refl
-takenCase-said (Yes (travels (Data asks last sn))) bytes = refl
-takenCase-said (Yes (travels (Acknowledge ready sn))) bytes = refl
-takenCase-said (Yes (travels (Connection ack bs t1 t3))) bytes = refl
-takenCase-said (Yes (travels Test)) bytes = refl
-takenCase-said (Yes (travels Break)) bytes = refl
-takenCase-said (Yes (travels Disconnect)) bytes = refl
-
--- Any two answers that the reader's promise allows are equal.
-pub one-answer : (x : Told) (a b : Answer) → told a ≡ x → told b ≡ x → a ≡ b
-unfolding told takenSaid
-one-answer x a b p q = sym (made a) ∙ ap make (p ∙ sym q) ∙ made b
-  where
-    make : Told → Answer
-    make t = record { code = t .code; taken = takenCase (t .telegram); payload = t .payload; len = t .len }
-
-    made : (a : Answer) → make (told a) ≡ a
-    made a = ap (λ k. record { code = a .code; taken = k; payload = a .payload; len = a .len }) (takenCase-said (a .taken) (take (a .len) (a .payload)))
-
--- Any two results and buffers that the writer's promise allows are equal.
-pub one-write : (x : Wrote) (v w : Written) (after later : List ℕ) → wrote v after ≡ x → wrote w later ≡ x → (v ≡ w) × (after ≡ later)
-unfolding wrote
-one-write x v w after later p q =
-    (ap (λ (y : Wrote). record { code = y .code; len = y .len }) (p ∙ sym q), ap (λ (y : Wrote). y .buffer) (p ∙ sym q))

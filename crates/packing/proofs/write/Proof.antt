@@ -1,8 +1,8 @@
 -- `packing::write` meets its contract. Assumes nothing.
 use native.Mathlib.Omega.{arith}
 use borrow.Author.Tests.{lt-ltb, le-ltb}
-use Rattle.tp20.specs.Face.{refusal}
-use Rattle.packing.specs.Record.{writing, unpacked}
+use Rattle.telegram_types.specs.Face.{refusal}
+use Rattle.packing.specs.Crossing.{writing, unpacked}
 use Rattle.packing.proofs.Says.{unsaid, said-written, carried-part, short-write}
 use borrow.Author.Needs.{needs}
 use Rattle.packing.proofs.write.Statement.{statement}
@@ -19,7 +19,7 @@ returns-2 c = rw (c .refused2 .ensures .0, c .refused2 .ensures .1, le-ltb _ _ (
 returns-3 : tie.Need-returns-3
 unfolding writing unpacked refusal
 returns-3 c =
-    rw (c .refused3 .ensures .0, c .refused3 .ensures .1, le-ltb _ _ (c .before .before .before .before .before .if1 .left), le-ltb _ _ (c .before .before .before .before .if2 .left), unsaid _ _ (c .before .before .before .telegram .ensures) (c .before .enum-told .given .1))
+    rw (c .refused3 .ensures .0, c .refused3 .ensures .1, le-ltb _ _ (c .before .before .before .before .before .if1 .left), le-ltb _ _ (c .before .before .before .before .if2 .left), unsaid _ _ (c .before .before .before .telegram-in .ensures) (c .before .enum-told .given .1))
 
 cast-t16 : tie.Need-cast-t16
 cast-t16 c = let h = short-write _ _ _ _ (c .before .before .before .write .ensures) in omega arith
@@ -27,7 +27,7 @@ cast-t16 c = let h = short-write _ _ _ _ (c .before .before .before .write .ensu
 returns-4 : tie.Need-returns-4
 returns-4 c =
     let a = c .before .before .before .before .before .before .before .before .before .before .before .before .before .before .before .before .args in
-    said-written _ _ (a .telegram .now) _ (a .buffer .now) _ _ (carried-part (a .telegram .now) _ (c .before .before .before .before .before .before .carried .ensures)) (c .before .before .before .before .before .before .before .before .before .before .before .telegram .ensures) (c .before .before .before .before .before .before .before .before .before .taken .given .1) (c .before .before .before .before .before .before .before .before .before .before .before .before .before .if1 .left) (c .before .before .before .before .before .before .before .before .before .before .before .before .if2 .left) (c .before .before .before .write .ensures)
+    said-written _ _ (a .telegram .now) _ (a .buffer .now) _ _ (carried-part (a .telegram .now) _ (c .before .before .before .before .before .before .carried .ensures)) (c .before .before .before .before .before .before .before .before .before .before .before .telegram-in .ensures) (c .before .before .before .before .before .before .before .before .before .taken .given .1) (c .before .before .before .before .before .before .before .before .before .before .before .before .before .if1 .left) (c .before .before .before .before .before .before .before .before .before .before .before .before .if2 .left) (c .before .before .before .write .ensures)
 
 pub write-spec : {M : Type 1} → statement M
 write-spec =

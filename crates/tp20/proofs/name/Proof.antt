@@ -1,8 +1,8 @@
 -- `tp20::name` meets its contract. Assumes nothing.
 use mathlib.Core.Path.{ap, _∙_}
 use borrow.Author.Needs.{needs}
-use Rattle.tp20.specs.Face.{naming}
-use Rattle.tp20.proofs.Answers.{unanswered, named}
+use Rattle.telegram_types.specs.Face.{naming}
+use Rattle.telegram_answers.proofs.Answers.{unanswered, named}
 use Rattle.tp20.proofs.name.Statement.{statement}
 use Rattle.tp20.proofs.name.Tie as tie
 

@@ -2,7 +2,7 @@
 use borrow.Author.Tests.{lt-ltb, le-ltb}
 use borrow.Author.Needs.{needs}
 use Rattle.telegram.specs.Telegram.{anyFits, anyBytes}
-use Rattle.tp20.specs.Face.{wrote, refusal, said, writing}
+use Rattle.telegram_types.specs.Face.{wrote, refusal, said, writing}
 use Rattle.tp20.proofs.write.Statement.{statement}
 use Rattle.tp20.proofs.write.Tie as tie
 
