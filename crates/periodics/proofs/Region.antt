@@ -15,7 +15,7 @@ use Rattle.codec.specs.Word.{wordAt}
 use Rattle.codec.specs.Code.{via, slot, getSlot, validSlot}
 use Rattle.codec.proofs.Tests.{join, true-T, below, above, between}
 use Rattle.codec.proofs.Lists.{all-take, all-drop}
-use Rattle.machine.specs.Codes.{codeOf, threeRates}
+use Rattle.machine.specs.Codes.{codeOf}
 use Rattle.machine.specs.Message.{messageCode}
 use Rattle.machine.specs.Filter.{Slots, free, taken, has}
 use Rattle.machine.proofs.Slots.{has-place, has-none}
@@ -151,13 +151,13 @@ module _ (flags : ℕ) (message : List ℕ) (interval : ℕ) where
 
 -- ---- start, with the places
 
-module _ (r : List ℕ) (o : Opened r) (message : List ℕ) (interval t : ℕ) where
-  refusal : (code : ℕ) → (code ≡ 0 → ⊥) → periodicCode (openOf r) message interval ≡ code → gives code 0 [] r ≡ callOutcome threeRates t r (startPeriodic message interval)
+module _ (r : List ℕ) (o : Opened r) (message : List ℕ) (interval : ℕ) (rates : List ℕ) (t : ℕ) where
+  refusal : (code : ℕ) → (code ≡ 0 → ⊥) → periodicCode (openOf r) message interval ≡ code → gives code 0 [] r ≡ callOutcome rates t r (startPeriodic message interval)
   unfolding onOpen onStartPeriodic unless
   refusal zero n e = absurd (n refl)
-  refusal (suc k) n e = stays r o threeRates t (startPeriodic message interval) (suc k) 0 [] (rw e)
+  refusal (suc k) n e = stays r o rates t (startPeriodic message interval) (suc k) 0 [] (rw e)
 
-  pub start-refused : (code : ℕ) → code ≡ startCode (fl (openOf r)) message interval → (code ≡ 0 → ⊥) → gives code 0 [] r ≡ callOutcome threeRates t r (startPeriodic message interval)
+  pub start-refused : (code : ℕ) → code ≡ startCode (fl (openOf r)) message interval → (code ≡ 0 → ⊥) → gives code 0 [] r ≡ callOutcome rates t r (startPeriodic message interval)
   unfolding periodicCode startCode
   start-refused code e n = refusal code n (no-more-tests (three (fl (openOf r)) message interval) ((leb 10 (free (placesOf r)), 0x0C) ∷ []) (λ z. n (e ∙ z)) ∙ sym e)
 
@@ -166,51 +166,51 @@ module _ (r : List ℕ) (o : Opened r) (message : List ℕ) (interval t : ℕ) w
     unfolding periodicCode startCode
     room-test = more-tests (three (fl (openOf r)) message interval) ((leb 10 (free (placesOf r)), 0x0C) ∷ []) (telling (fl (openOf r)) message interval) (sym e)
 
-    pub start-full : (i : ℕ) → i ≡ free (placesOf r) → 10 ≤ i → gives 0x0C 0 [] r ≡ callOutcome threeRates t r (startPeriodic message interval)
+    pub start-full : (i : ℕ) → i ≡ free (placesOf r) → 10 ≤ i → gives 0x0C 0 [] r ≡ callOutcome rates t r (startPeriodic message interval)
     unfolding codeOf
     start-full i ei h = refusal 0x0C (λ z. omega arith) (room-test ∙ rw (le-leb 10 (free (placesOf r)) (omega arith)))
 
     pub start-done : (i : ℕ) → i ≡ free (placesOf r) → i < 10 → (ys : List ℕ)
         → ((flags : ℕ) → ys ≡ periodics flags .put (set (periodics flags .get (partOf r)) i (some (periodicOf message interval))))
-        → gives 0 (i + 1) [] (putMid 280 450 r ys) ≡ callOutcome threeRates t r (startPeriodic message interval)
+        → gives 0 (i + 1) [] (putMid 280 450 r ys) ≡ callOutcome rates t r (startPeriodic message interval)
     unfolding onOpen onStartPeriodic unless doneWith codeOf
     start-done i ei h ys ey =
         let k : periodicCode (openOf r) message interval ≡ 0 = room-test ∙ rw (lt-leb 10 (free (placesOf r)) (omega arith)) in
-        moves r o threeRates t (startPeriodic message interval) (withPlaces r (set (placesOf r) i (some (periodicOf message interval)))) 0 (i + 1) [] _
+        moves r o rates t (startPeriodic message interval) (withPlaces r (set (placesOf r) i (some (periodicOf message interval)))) 0 (i + 1) [] _
         (rw k (rw ei refl)) (lent-back r o (λ ps. set ps i (some (periodicOf message interval))) ys ey)
 
 -- ---- stop
 
-module _ (r : List ℕ) (o : Opened r) (number t : ℕ) where
-  stop-none : has (placesOf r) number ≡ false → gives 0x0D 0 [] r ≡ callOutcome threeRates t r (stopPeriodic number)
+module _ (r : List ℕ) (o : Opened r) (number : ℕ) (rates : List ℕ) (t : ℕ) where
+  stop-none : has (placesOf r) number ≡ false → gives 0x0D 0 [] r ≡ callOutcome rates t r (stopPeriodic number)
   unfolding onOpen onStopPeriodic unless codeOf
-  stop-none e = stays r o threeRates t (stopPeriodic number) 0x0D 0 [] (rw e)
+  stop-none e = stays r o rates t (stopPeriodic number) 0x0D 0 [] (rw e)
 
   stop-done : has (placesOf r) number ≡ true → (i : ℕ) → i ≡ number - 1 → (ys : List ℕ) → ((flags : ℕ) → ys ≡ periodics flags .put (set (periodics flags .get (partOf r)) i none))
-      → gives 0 0 [] (putMid 280 450 r ys) ≡ callOutcome threeRates t r (stopPeriodic number)
+      → gives 0 0 [] (putMid 280 450 r ys) ≡ callOutcome rates t r (stopPeriodic number)
   unfolding onOpen onStopPeriodic unless codeOf doneWith
   stop-done e i ei ys ey =
-      moves r o threeRates t (stopPeriodic number) (withPlaces r (set (placesOf r) i none)) 0 0 [] _
+      moves r o rates t (stopPeriodic number) (withPlaces r (set (placesOf r) i none)) 0 0 [] _
       (rw e (rw ei refl)) (lent-back r o (λ ps. set ps i none) ys ey)
 
-  pub stop-zero : number < 1 → gives 0x0D 0 [] r ≡ callOutcome threeRates t r (stopPeriodic number)
+  pub stop-zero : number < 1 → gives 0x0D 0 [] r ≡ callOutcome rates t r (stopPeriodic number)
   stop-zero h = stop-none (has-none (placesOf r) number (below 1 (length (placesOf r)) number h))
 
   ten-places : length (placesOf r) ≡ 10
   ten-places = ap length (sym (lent-held r o)) ∙ ten-held (partOf r) (lent r o)
 
-  pub stop-high : 10 < number → gives 0x0D 0 [] r ≡ callOutcome threeRates t r (stopPeriodic number)
+  pub stop-high : 10 < number → gives 0x0D 0 [] r ≡ callOutcome rates t r (stopPeriodic number)
   stop-high h = stop-none (has-none (placesOf r) number (above 1 (length (placesOf r)) number (omega (arith, ten-places))))
 
   module _ (i : ℕ) (ei : number ≡ i + 1) (h : i < 10) where
     place-is : getD (placesOf r) i none ≡ heldAt (partOf r) (lent r o) i h
     place-is = ap (λ (ps : Slots Periodic). getD ps i none) (sym (lent-held r o))
 
-    pub stop-empty : wordAt (i * 4) (partOf r) ≡ 0 → gives 0x0D 0 [] r ≡ callOutcome threeRates t r (stopPeriodic number)
+    pub stop-empty : wordAt (i * 4) (partOf r) ≡ 0 → gives 0x0D 0 [] r ≡ callOutcome rates t r (stopPeriodic number)
     unfolding taken
     stop-empty z = stop-none (has-place (placesOf r) number i ei ∙ ap taken (place-is ∙ empty-at (partOf r) (lent r o) i h z))
 
     pub stop-taken : (wordAt (i * 4) (partOf r) ≡ 0 → ⊥) → (ys : List ℕ) → ((flags : ℕ) → ys ≡ periodics flags .put (set (periodics flags .get (partOf r)) i none))
-        → gives 0 0 [] (putMid 280 450 r ys) ≡ callOutcome threeRates t r (stopPeriodic number)
+        → gives 0 0 [] (putMid 280 450 r ys) ≡ callOutcome rates t r (stopPeriodic number)
     unfolding taken
     stop-taken n ys ey = stop-done (has-place (placesOf r) number i ei ∙ ap taken (place-is ∙ taken-at (partOf r) (lent r o) i h n .is)) i (omega arith) ys ey

@@ -1,11 +1,10 @@
 // The periodics of a channel: started, stopped, moved on in time, and which of them is sent next.
 ghost use mathlib.Core.Path.{_≡_};
-ghost use mathlib.Core.List.{[], map};
+ghost use mathlib.Core.List.{List, [], map};
 ghost use mathlib.Core.Option.{none, some};
 ghost use Prim.Native.Nat.{ℕ, _<_, _≤_};
 ghost use lib.Dec.{T};
 ghost use lib.ListN.{length, set};
-ghost use Rattle.machine.specs.Codes.{threeRates};
 ghost use Rattle.machine.specs.Filter.{free};
 ghost use Rattle.machine.specs.Channel.{startPeriodic, stopPeriodic, periodicOf, laterSlot, onAdvance};
 ghost use Rattle.layout.specs.Memory.{periodics, region};
@@ -72,7 +71,7 @@ fn start_code(message: &[u8], interval: u32, flags: u32) -> u32
 // Start: a new periodic under the smallest free number.
 pub fn start_periodic(r: &mut [u8], message: &[u8], interval: u32) -> Answer
     requires { ⌜ Opened (now r) ⌝ }
-    ensures { λ a. ⌜ ((t : ℕ) → gives (a .code) (a .value) [] (now (r .exit)) ≡ callOutcome threeRates t (now (r .entry)) (startPeriodic (now (message .entry)) interval)) ⌝ }
+    ensures { λ a. ⌜ ((rates : List ℕ) (t : ℕ) → gives (a .code) (a .value) [] (now (r .exit)) ≡ callOutcome rates t (now (r .entry)) (startPeriodic (now (message .entry)) interval)) ⌝ }
 {
     let code = start_code(message, interval, integers::word_at(r, 1));
     if code != codes::STATUS_NOERROR {
@@ -106,7 +105,7 @@ fn stop_at(part: &mut [u8], i: usize)
 // Stop: the place of that number is emptied; 0x0D where it is empty or there is no such place.
 pub fn stop_periodic(r: &mut [u8], number: u32) -> u32
     requires { ⌜ Opened (now r) ⌝ }
-    ensures { λ c. ⌜ ((t : ℕ) → gives c 0 [] (now (r .exit)) ≡ callOutcome threeRates t (now (r .entry)) (stopPeriodic number)) ⌝ }
+    ensures { λ c. ⌜ ((rates : List ℕ) (t : ℕ) → gives c 0 [] (now (r .exit)) ≡ callOutcome rates t (now (r .entry)) (stopPeriodic number)) ⌝ }
 {
     if number < 1 {
         return codes::ERR_INVALID_MSG_ID;

@@ -12,7 +12,6 @@ use Rattle.codec.specs.Plain.{if_then_else_, zeros}
 use Rattle.codec.specs.Code.{such, markOf}
 use Rattle.codec.proofs.Lawful.{such-under}
 use Rattle.codec.proofs.Many.{one-none}
-use Rattle.machine.specs.Codes.{threeRates}
 use Rattle.machine.specs.Message.{Rec, received}
 use Rattle.machine.specs.Channel.{opened, Open, withSending, sent, landed, sending, onSent, onOpen, doneWith, arrive}
 use Rattle.layout.specs.Record.{rec36, outgoing, outCell}
@@ -38,54 +37,53 @@ module _ {r : List ℕ} (f : Opened r) where
   abbrev o : Open
   o = openOf r
 
-  module _ (t : ℕ) where
-    pub sent-nothing : getD r 1307 0 ≡ 0 → gives 0x07 0 [] r ≡ callOutcome threeRates t r sent
+  pub sent-nothing : (rates : List ℕ) (t : ℕ) → getD r 1307 0 ≡ 0 → gives 0x07 0 [] r ≡ callOutcome rates t r sent
+  unfolding onOpen onSent sending
+  sent-nothing rates t z = stays r f rates t sent 0x07 0 [] (ap (sending t o) (none-flies f z))
+
+  -- with the flight store empty
+  module _ {ys : List ℕ} (e : ys ≡ zeros (length (take 37 (drop 1307 r)))) (n : getD r 1307 0 ≡ 0 → ⊥) where
+    landed-is : putMid 1307 37 r ys ≡ region .put (opened (landed o))
+    unfolding withSending landed
+    landed-is = flight-part r f .becomes _ none (e ∙ ap (λ (k : ℕ). zeros k) (flight-part r f .long) ∙ sym (none-put (fl o)))
+
+    landed-fine : Fine (opened (landed o))
+    unfolding withSending landed
+    landed-fine = put-sending o (good f) (o .sending .periodics) (o .sending .written) none (good f .periodics-ok) (good f .written-ok) (one-none (outCell (fl o)))
+
+    abbrev x : Rec
+    x = flies f n .one
+
+    sends : (rates : List ℕ) (t : ℕ) (b : Bool) → o .config .loopback ≡ b → onOpen rates t o sent ≡ doneWith (if b then arrive (landed o) (received t (x .tx + 1) (x .bytes)) else opened (landed o)) 0
     unfolding onOpen onSent sending
-    sent-nothing z = stays r f threeRates t sent 0x07 0 [] (ap (sending t o) (none-flies f z))
+    sends rates t b h = ap (sending t o) (flies f n .is) ∙ ap (λ (l : Bool). doneWith (if l then arrive (landed o) (received t (x .tx + 1) (x .bytes)) else opened (landed o)) 0) h
 
-    -- with the flight store empty
-    module _ {ys : List ℕ} (e : ys ≡ zeros (length (take 37 (drop 1307 r)))) (n : getD r 1307 0 ≡ 0 → ⊥) where
-      landed-is : putMid 1307 37 r ys ≡ region .put (opened (landed o))
-      unfolding withSending landed
-      landed-is = flight-part r f .becomes _ none (e ∙ ap (λ (k : ℕ). zeros k) (flight-part r f .long) ∙ sym (none-put (fl o)))
+    pub sent-quietly : (rates : List ℕ) (t : ℕ) → getD r 9 0 ≡ 0 → gives 0 0 [] (putMid 1307 37 r ys) ≡ callOutcome rates t r sent
+    unfolding doneWith
+    sent-quietly rates t z = moves r f rates t sent (opened (landed o)) 0 0 [] _ (sends rates t false (mark-off (o .config .loopback) (sym (mark-of (loopback-part r f)) ∙ z))) landed-is
 
-      landed-fine : Fine (opened (landed o))
-      unfolding withSending landed
-      landed-fine = put-sending o (good f) (o .sending .periodics) (o .sending .written) none (good f .periodics-ok) (good f .written-ok) (one-none (outCell (fl o)))
+    -- and the record comes back
+    pub landed-open : Opened (putMid 1307 37 r ys)
+    landed-open = subst Opened (sym landed-is) (opened-again (landed o) landed-fine)
 
-      abbrev x : Rec
-      x = flies f n .one
+    module _ {m : List ℕ} (c : m ≡ take 36 (drop 1308 r)) where
+      shows : m ≡ rec36 .put x
+      shows = c ∙ flies f n .shows
 
-      sends : (b : Bool) → o .config .loopback ≡ b → onOpen threeRates t o sent ≡ doneWith (if b then arrive (landed o) (received t (x .tx + 1) (x .bytes)) else opened (landed o)) 0
-      unfolding onOpen onSent sending
-      sends b h = ap (sending t o) (flies f n .is) ∙ ap (λ (l : Bool). doneWith (if l then arrive (landed o) (received t (x .tx + 1) (x .bytes)) else opened (landed o)) 0) h
+      pub outgoing-lent : Outgoing m
+      unfolding outCell such
+      outgoing-lent =
+          let l = out-lawful (fl o) in
+          record { flags = fl o; long = ap length shows ∙ l .long x (flies f n .held) ∙ out-size (fl o); valid = subst (λ (s : List ℕ). T (outCell (fl o) .valid s)) (sym shows) (l .valid-put x (flies f n .held)) }
 
-      pub sent-quietly : getD r 9 0 ≡ 0 → gives 0 0 [] (putMid 1307 37 r ys) ≡ callOutcome threeRates t r sent
-      unfolding doneWith
-      sent-quietly z = moves r f threeRates t sent (opened (landed o)) 0 0 [] _ (sends false (mark-off (o .config .loopback) (sym (mark-of (loopback-part r f)) ∙ z))) landed-is
+      got : rec36 .get m ≡ x
+      unfolding outCell
+      got = ap (rec36 .get) shows ∙ rec-lawful .get-put x (such-under rec36 (outgoing (fl o)) x (flies f n .held))
 
-      -- and the record comes back
-      pub landed-open : Opened (putMid 1307 37 r ys)
-      landed-open = subst Opened (sym landed-is) (opened-again (landed o) landed-fine)
-
-      module _ {m : List ℕ} (c : m ≡ take 36 (drop 1308 r)) where
-        shows : m ≡ rec36 .put x
-        shows = c ∙ flies f n .shows
-
-        pub outgoing-lent : Outgoing m
-        unfolding outCell such
-        outgoing-lent =
-            let l = out-lawful (fl o) in
-            record { flags = fl o; long = ap length shows ∙ l .long x (flies f n .held) ∙ out-size (fl o); valid = subst (λ (s : List ℕ). T (outCell (fl o) .valid s)) (sym shows) (l .valid-put x (flies f n .held)) }
-
-        got : rec36 .get m ≡ x
-        unfolding outCell
-        got = ap (rec36 .get) shows ∙ rec-lawful .get-put x (such-under rec36 (outgoing (fl o)) x (flies f n .held))
-
-        pub sent-back : {after : List ℕ} → (getD r 9 0 ≡ 0 → ⊥)
-            → after ≡ region .put (arrived (received t (rec36 .get m .tx + 1) (rec36 .get m .bytes)) (region .get (putMid 1307 37 r ys))) → gives 0 0 [] after ≡ callOutcome threeRates t r sent
-        unfolding doneWith arrived
-        sent-back {after} z a =
-            let mid : region .get (putMid 1307 37 r ys) ≡ opened (landed o) = ap (region .get) landed-is ∙ region-lawful .get-put (opened (landed o)) landed-fine in
-            moves r f threeRates t sent _ 0 0 [] after (sends true (mark-on (o .config .loopback) (λ h. z (mark-of (loopback-part r f) ∙ h))))
-            (a ∙ (λ j. region .put (arrived (received t (got j .tx + 1) (got j .bytes)) (mid j))))
+      pub sent-back : (rates : List ℕ) (t : ℕ) {after : List ℕ} → (getD r 9 0 ≡ 0 → ⊥)
+          → after ≡ region .put (arrived (received t (rec36 .get m .tx + 1) (rec36 .get m .bytes)) (region .get (putMid 1307 37 r ys))) → gives 0 0 [] after ≡ callOutcome rates t r sent
+      unfolding doneWith arrived
+      sent-back rates t {after} z a =
+          let mid : region .get (putMid 1307 37 r ys) ≡ opened (landed o) = ap (region .get) landed-is ∙ region-lawful .get-put (opened (landed o)) landed-fine in
+          moves r f rates t sent _ 0 0 [] after (sends rates t true (mark-on (o .config .loopback) (λ h. z (mark-of (loopback-part r f) ∙ h))))
+          (a ∙ (λ j. region .put (arrived (received t (got j .tx + 1) (got j .bytes)) (mid j))))

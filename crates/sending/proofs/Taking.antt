@@ -13,7 +13,7 @@ use borrow.Author.Tests.{lt-ltb, le-ltb, le-leb, ltb-true, ltb-false}
 use borrow.Rule.Slice.PartMut.{putMid}
 use Rattle.codec.proofs.Tests.{left, right, true-T}
 use Rattle.codec.proofs.Many.{upTo-count}
-use Rattle.machine.specs.Codes.{codeOf, threeRates}
+use Rattle.machine.specs.Codes.{codeOf}
 use Rattle.machine.specs.Message.{Rec, shown}
 use Rattle.machine.specs.Filter.{Slots}
 use Rattle.machine.specs.Channel.{Chan, opened, Open, Periodic, Next, next, calm, withSending, unless, shorter, takeNext, giving, chosen, taking, onTake, onOpen}
@@ -114,22 +114,22 @@ module _ {r : List ℕ} (f : Opened r) where
 
   -- ---- take
 
-  module _ (t : ℕ) (b : List ℕ) where
-    pub take-short : length b < 36 → gives 0x04 0 b r ≡ callOutcome threeRates t r (takeNext b)
+  module _ (rates : List ℕ) (t : ℕ) (b : List ℕ) where
+    pub take-short : length b < 36 → gives 0x04 0 b r ≡ callOutcome rates t r (takeNext b)
     unfolding onOpen onTake unless codeOf shorter
-    take-short h = stays r f threeRates t (takeNext b) 0x04 0 b (rw (lt-ltb (length b) 36 h) refl)
+    take-short h = stays r f rates t (takeNext b) 0x04 0 b (rw (lt-ltb (length b) 36 h) refl)
 
     module _ (h : 36 ≤ length b) where
-      takes : (x : Option Rec) → o .sending .flight ≡ x → onOpen threeRates t o (takeNext b) ≡ taking o x b
+      takes : (x : Option Rec) → o .sending .flight ≡ x → onOpen rates t o (takeNext b) ≡ taking o x b
       unfolding onOpen onTake unless codeOf shorter
       takes x e = rw (le-ltb (length b) 36 h) (ap (λ (y : Option Rec). taking o y b) e)
 
-      pub take-again : (getD r 1307 0 ≡ 0 → ⊥) → {ys : List ℕ} → ys ≡ take 36 (drop 1308 r) → gives 0 0 (ys ++ drop 36 b) r ≡ callOutcome threeRates t r (takeNext b)
+      pub take-again : (getD r 1307 0 ≡ 0 → ⊥) → {ys : List ℕ} → ys ≡ take 36 (drop 1308 r) → gives 0 0 (ys ++ drop 36 b) r ≡ callOutcome rates t r (takeNext b)
       unfolding taking giving
       take-again n e =
           let x = flies f n in
           ap (λ (s : List ℕ). gives 0 0 (s ++ drop 36 b) r) (e ∙ x .shows ∙ sym (shown-is (x .one)))
-          ∙ stays r f threeRates t (takeNext b) 0 0 (shown (x .one) ++ drop 36 b) (takes (some (x .one)) (x .is))
+          ∙ stays r f rates t (takeNext b) 0 0 (shown (x .one) ++ drop 36 b) (takes (some (x .one)) (x .is))
 
   -- i is the first place with a pending periodic, and nothing is in flight
   module _ {i : ℕ} (first : (k : ℕ) → i ≡ firstPending (periodics k .get (take 450 (drop 280 r)))) where
@@ -139,11 +139,11 @@ module _ {r : List ℕ} (f : Opened r) where
     ten : length (o .sending .periodics) ≡ 10
     ten = periodics-rows (fl o) .count (o .sending .periodics) (good f .periodics-ok)
 
-    pub take-none : (t : ℕ) (b : List ℕ) → 36 ≤ length b → getD r 1307 0 ≡ 0 → 10 ≤ i → getD r 730 0 ≡ 0 → gives 0x10 0 b r ≡ callOutcome threeRates t r (takeNext b)
+    pub take-none : (rates : List ℕ) (t : ℕ) (b : List ℕ) → 36 ≤ length b → getD r 1307 0 ≡ 0 → 10 ≤ i → getD r 730 0 ≡ 0 → gives 0x10 0 b r ≡ callOutcome rates t r (takeNext b)
     unfolding taking chosen
-    take-none t b h z k e =
-        stays r f threeRates t (takeNext b) 0x10 0 b
-        (takes t b h none (none-flies f z) ∙ ap (λ (x : Option Next). chosen o x b) (goes-none o ten first-is k (sym (written-count f) ∙ e)))
+    take-none rates t b h z k e =
+        stays r f rates t (takeNext b) 0x10 0 b
+        (takes rates t b h none (none-flies f z) ∙ ap (λ (x : Option Next). chosen o x b) (goes-none o ten first-is k (sym (written-count f) ∙ e)))
 
     module _ (something : 10 ≤ i → 0 < getD r 730 0) where
       pub choosing : Choosing (take 450 (drop 280 r)) (take 577 (drop 730 r)) i
@@ -171,15 +171,15 @@ module _ {r : List ℕ} (f : Opened r) where
       left-fine = put-sending o (good f) _ _ _ (periodics-rows (fl o) .make (x .periodics) (left-ok .count) (left-ok .each)) (left-ok .written-ok) (good f .flight-ok)
 
       -- m is the choice, zs its copy at the front of the buffer, `left` the region without it, ys the flight store
-      pub take-chosen : (t : ℕ) (b : List ℕ) {m zs left ys : List ℕ} → 36 ≤ length b → getD r 1307 0 ≡ 0
+      pub take-chosen : (rates : List ℕ) (t : ℕ) (b : List ℕ) {m zs left ys : List ℕ} → 36 ≤ length b → getD r 1307 0 ≡ 0
           → ((k : ℕ) → m ≡ nextShown (next (periodics k .get (take 450 (drop 280 r))) (written k .get (take 577 (drop 730 r))))) × (length m ≡ 36) → zs ≡ m
-          → left ≡ region .put (freed i (region .get r)) → ys ≡ 1 ∷ take 36 (zs ++ drop 36 b) → gives 0 0 (zs ++ drop 36 b) (putMid 1307 37 left ys) ≡ callOutcome threeRates t r (takeNext b)
+          → left ≡ region .put (freed i (region .get r)) → ys ≡ 1 ∷ take 36 (zs ++ drop 36 b) → gives 0 0 (zs ++ drop 36 b) (putMid 1307 37 left ys) ≡ callOutcome rates t r (takeNext b)
       unfolding taking chosen giving nextShown withSending
-      take-chosen t b {zs = zs} {left} {ys} h z em ez el ey =
+      take-chosen rates t b {zs = zs} {left} {ys} h z em ez el ey =
           let shows : zs ≡ shown (x .chosen) = ez ∙ em .0 (fl o) ∙ (λ j. nextShown (next (lent-held r f j) (written-part r f .got j))) ∙ ap nextShown (one-goes .is) in
           let flies : ys ≡ 1 ∷ shown (x .chosen) = ey ∙ ap {B = List ℕ} (λ (s : List ℕ). 1 ∷ s) (take-at zs (drop 36 b) 36 (ap length ez ∙ em .1) ∙ shows) in
           let without : left ≡ region .put (withSending o (x .periodics) (x .written) (o .sending .flight)) = el ∙ ap (λ (c : Chan). region .put (freed i c)) (is-open r f) ∙ ap (region .put) (one-goes .leaves) in
           ap (λ (s : List ℕ). gives 0 0 (s ++ drop 36 b) (putMid 1307 37 left ys)) shows
-          ∙ moves r f threeRates t (takeNext b) _ 0 0 (shown (x .chosen) ++ drop 36 b) (putMid 1307 37 left ys)
-          (takes t b h none (none-flies f z) ∙ ap (λ (y : Option Next). chosen o y b) (one-goes .is))
+          ∙ moves r f rates t (takeNext b) _ 0 0 (shown (x .chosen) ++ drop 36 b) (putMid 1307 37 left ys)
+          (takes rates t b h none (none-flies f z) ∙ ap (λ (y : Option Next). chosen o y b) (one-goes .is))
           (put-in-flight _ left-fine (x .chosen) without flies)

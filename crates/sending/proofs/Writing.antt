@@ -14,7 +14,7 @@ use Rattle.codec.specs.Code.{such}
 use Rattle.codec.proofs.Lists.{all-drop, part-long}
 use Rattle.codec.proofs.Store.{count-at, one-more}
 use Rattle.codec.proofs.Many.{upTo-lawful}
-use Rattle.machine.specs.Codes.{codeOf, threeRates}
+use Rattle.machine.specs.Codes.{codeOf}
 use Rattle.machine.specs.Message.{Rec, messageCode, clean}
 use Rattle.machine.specs.Channel.{write, unless, shorter, Wrote, writeCode, unlessStopped, writing, onWrite, onOpen}
 use Rattle.layout.specs.Record.{rec36, outCell}
@@ -210,18 +210,18 @@ module _ {r : List ℕ} (o : Opened r) {flags : ℕ} (e : flags ≡ wordAt 1 r) 
   written-lent =
       subst (λ (k : ℕ). WrittenPart k (take 577 (drop 730 r))) (sym flags-are) (record { long = written-part r o .long; valid = written-part r o .valid })
 
-  pub write-done : (t n : ℕ) (b : List ℕ) {code count : ℕ} {ys : List ℕ} → 36 * n ≤ length b → Stopped flags (writing flags n b (written flags .get (take 577 (drop 730 r))) 0) code count ys
-      → gives code count [] (putMid 730 577 r ys) ≡ callOutcome threeRates t r (write n b)
+  pub write-done : (rates : List ℕ) (t n : ℕ) (b : List ℕ) {code count : ℕ} {ys : List ℕ} → 36 * n ≤ length b → Stopped flags (writing flags n b (written flags .get (take 577 (drop 730 r))) 0) code count ys
+      → gives code count [] (putMid 730 577 r ys) ≡ callOutcome rates t r (write n b)
   unfolding onOpen onWrite unless codeOf shorter
-  write-done t n b {code} {count} {ys} h s =
+  write-done rates t n b {code} {count} {ys} h s =
       let k : ℕ = fl (openOf r) in
       let w : Wrote = writing k n b (openOf r .sending .written) 0 in
       let d : Stopped k w code count ys =
       subst (λ (x : List Rec). Stopped k (writing k n b x 0) code count ys) (written-part r o .got)
       (subst (λ (j : ℕ). Stopped j (writing j n b (written j .get (take 577 (drop 730 r))) 0) code count ys) flags-are s) in
       ap₂ (λ (x y : ℕ). gives x y [] (putMid 730 577 r ys)) (d .code-is) (d .count-is)
-      ∙ moves r o threeRates t (write n b) _ (w .code) (w .count) [] _ (rw (le-ltb (length b) (36 * n) h) refl) (written-part r o .becomes ys (w .held) (d .store-is))
+      ∙ moves r o rates t (write n b) _ (w .code) (w .count) [] _ (rw (le-ltb (length b) (36 * n) h) refl) (written-part r o .becomes ys (w .held) (d .store-is))
 
-pub write-short : {r : List ℕ} (o : Opened r) (t n : ℕ) (b : List ℕ) → length b < 36 * n → gives 0x04 0 [] r ≡ callOutcome threeRates t r (write n b)
+pub write-short : {r : List ℕ} (o : Opened r) (rates : List ℕ) (t n : ℕ) (b : List ℕ) → length b < 36 * n → gives 0x04 0 [] r ≡ callOutcome rates t r (write n b)
 unfolding onOpen onWrite unless codeOf shorter
-write-short {r} o t n b h = stays r o threeRates t (write n b) 0x04 0 [] (rw (lt-ltb (length b) (36 * n) h) refl)
+write-short {r} o rates t n b h = stays r o rates t (write n b) 0x04 0 [] (rw (lt-ltb (length b) (36 * n) h) refl)

@@ -1,11 +1,10 @@
 // What is sent: written records, the choice of the next one, and the one in flight.
 use codes::Answer;
 ghost use mathlib.Core.Path.{_≡_};
-ghost use mathlib.Core.List.{[], _∷_};
+ghost use mathlib.Core.List.{List, [], _∷_};
 ghost use Prim.Native.Nat.{ℕ, _*_, _≤_, _<_};
 ghost use lib.Dec.{T};
 ghost use lib.ListN.{length, getD, drop};
-ghost use Rattle.machine.specs.Codes.{threeRates};
 ghost use Rattle.machine.specs.Channel.{writeCode, writing, next, takeNext};
 ghost use Rattle.machine.specs.Channel.{write as writeOf, sent as sentOf};
 ghost use Rattle.layout.specs.Memory.{periodics, region};
@@ -77,7 +76,7 @@ fn queue_all(store: &mut [u8], flags: u32, n: u32, buffer: &[u8]) -> Answer
 // Write: the first n records of the buffer, in order, until one is refused or 16 are held.
 pub fn write(r: &mut [u8], n: u32, buffer: &[u8]) -> Answer
     requires { ⌜ Opened (now r) ⌝ }
-    ensures { λ a. ⌜ ((t : ℕ) → gives (a .code) (a .value) [] (now (r .exit)) ≡ callOutcome threeRates t (now (r .entry)) (writeOf n (now (buffer .entry)))) ⌝ }
+    ensures { λ a. ⌜ ((rates : List ℕ) (t : ℕ) → gives (a .code) (a .value) [] (now (r .exit)) ≡ callOutcome rates t (now (r .entry)) (writeOf n (now (buffer .entry)))) ⌝ }
 {
     if buffer.len() < CELL * n as usize {
         return Answer {
@@ -147,7 +146,7 @@ fn free(r: &mut [u8], i: usize)
 // Take, where nothing is in flight: the chosen record goes in flight and to the buffer.
 fn take_next(r: &mut [u8], buffer: &mut [u8]) -> u32
     requires { ⌜ Opened (now r) × (getD (now r) 1307 0 ≡ 0) × (36 ≤ length (now buffer)) ⌝ }
-    ensures { λ c. ⌜ ((t : ℕ) → gives c 0 (now (buffer .exit)) (now (r .exit)) ≡ callOutcome threeRates t (now (r .entry)) (takeNext (now (buffer .entry)))) ⌝ }
+    ensures { λ c. ⌜ ((rates : List ℕ) (t : ℕ) → gives c 0 (now (buffer .exit)) (now (r .exit)) ≡ callOutcome rates t (now (r .entry)) (takeNext (now (buffer .entry)))) ⌝ }
 {
     let i = periodics::first_pending(&r[PERIODICS..WRITTEN]);
     if (i >= PLACES) & (r[WRITTEN] == 0) {
@@ -165,7 +164,7 @@ fn take_next(r: &mut [u8], buffer: &mut [u8]) -> u32
 // Take: the record in flight, or the chosen one, which then is in flight.
 pub fn take(r: &mut [u8], buffer: &mut [u8]) -> u32
     requires { ⌜ Opened (now r) ⌝ }
-    ensures { λ c. ⌜ ((t : ℕ) → gives c 0 (now (buffer .exit)) (now (r .exit)) ≡ callOutcome threeRates t (now (r .entry)) (takeNext (now (buffer .entry)))) ⌝ }
+    ensures { λ c. ⌜ ((rates : List ℕ) (t : ℕ) → gives c 0 (now (buffer .exit)) (now (r .exit)) ≡ callOutcome rates t (now (r .entry)) (takeNext (now (buffer .entry)))) ⌝ }
 {
     if buffer.len() < CELL {
         return codes::ERR_NULL_PARAMETER;
@@ -180,7 +179,7 @@ pub fn take(r: &mut [u8], buffer: &mut [u8]) -> u32
 // Sent: nothing is in flight any more. With loopback on, what was in flight comes back as if received.
 pub fn sent(r: &mut [u8], clock: u32) -> u32
     requires { ⌜ Opened (now r) ⌝ }
-    ensures { λ c. ⌜ gives c 0 [] (now (r .exit)) ≡ callOutcome threeRates clock (now (r .entry)) sentOf ⌝ }
+    ensures { λ c. ⌜ ((rates : List ℕ) → gives c 0 [] (now (r .exit)) ≡ callOutcome rates clock (now (r .entry)) sentOf) ⌝ }
 {
     if r[FLIGHT] == 0 {
         return codes::ERR_FAILED;

@@ -5,14 +5,14 @@ use Rattle.sending.proofs.sent.Statement.{statement}
 use Rattle.sending.proofs.sent.Tie as tie
 
 returns : tie.Need-returns
-returns c = let start = c .before .before .before in sent-nothing (start .pre) (start .args .clock) (c .if1 .taken)
+returns c = let start = c .before .before .before in λ rates. sent-nothing (start .pre) rates (start .args .clock) (c .if1 .taken)
 
 returns-2 : tie.Need-returns-2
 returns-2 c =
     let quiet = c .before .before .before .before in
     let flying = quiet .before .before in
     let start = flying .before .before .before in
-    sent-quietly (start .pre) (start .args .clock) (c .before .before .zero .ensures) (flying .if1 .left) (quiet .if2 .taken)
+    λ rates. sent-quietly (start .pre) (c .before .before .zero .ensures) (flying .if1 .left) rates (start .args .clock) (quiet .if2 .taken)
 
 echo-requires : tie.Need-echo-requires
 echo-requires c κs =
@@ -21,7 +21,7 @@ echo-requires c κs =
     let flying = copied .before .before .before .before .before .before in
     let start = flying .before .before .before in
     let gone = zeroed .zero2 .ensures in
-    (landed-open (start .pre) (start .args .clock) gone (flying .if1 .left), outgoing-lent (start .pre) (start .args .clock) gone (flying .if1 .left) (copied .copy .ensures))
+    (landed-open (start .pre) gone (flying .if1 .left), outgoing-lent (start .pre) gone (flying .if1 .left) (copied .copy .ensures))
 
 returns-3 : tie.Need-returns-3
 returns-3 c =
@@ -30,7 +30,7 @@ returns-3 c =
     let loud = copied .before .before .before .before in
     let flying = loud .before .before in
     let start = flying .before .before .before in
-    sent-back (start .pre) (start .args .clock) (zeroed .zero2 .ensures) (flying .if1 .left) (copied .copy .ensures) (loud .if2 .left) (c .before .before .echo .ensures)
+    λ rates. sent-back (start .pre) (zeroed .zero2 .ensures) (flying .if1 .left) (copied .copy .ensures) rates (start .args .clock) (loud .if2 .left) (c .before .before .echo .ensures)
 
 pub sent-spec : {M : Type 1} → statement M
 sent-spec =

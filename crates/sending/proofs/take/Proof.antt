@@ -5,15 +5,15 @@ use Rattle.sending.proofs.take.Statement.{statement}
 use Rattle.sending.proofs.take.Tie as tie
 
 returns : tie.Need-returns
-returns c = λ t. let start = c .before .before .before in take-short (start .pre) t (start .args .buffer .now) (c .if1 .taken)
+returns c = λ rates t. let start = c .before .before .before in take-short (start .pre) rates t (start .args .buffer .now) (c .if1 .taken)
 
 returns-3 : tie.Need-returns-3
 returns-3 c =
-    λ t.
+    λ rates t.
     let flying = c .before .before .before .before .before .before in
     let long = flying .before .before in
     let start = long .before .before .before in
-    take-again (start .pre) t (start .args .buffer .now) (long .if1 .left) (flying .if2 .left) (c .before .before .copy-record .ensures)
+    take-again (start .pre) rates t (start .args .buffer .now) (long .if1 .left) (flying .if2 .left) (c .before .before .copy-record .ensures)
 
 pub take-spec : {M : Type 1} → statement M
 take-spec =

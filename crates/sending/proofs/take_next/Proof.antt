@@ -10,11 +10,11 @@ first-pending-requires c κs = let start = c .before .before .before .before in 
 
 returns : tie.Need-returns
 returns c =
-    λ t.
+    λ rates t.
     let found = c .before .before in
     let start = found .before .before .before .before .before in
     let n = nothing-left (found .first-pending .result) _ (c .if1 .taken) in
-    take-none (start .pre .0) (found .first-pending .ensures) t (start .args .buffer .now) (start .pre .2) (start .pre .1) (n .0) (n .1)
+    take-none (start .pre .0) (found .first-pending .ensures) rates t (start .args .buffer .now) (start .pre .2) (start .pre .1) (n .0) (n .1)
 
 choice-requires : tie.Need-choice-requires
 choice-requires c κs =
@@ -30,13 +30,13 @@ free-requires c κs =
 
 returns-2 : tie.Need-returns-2
 returns-2 c =
-    λ t.
+    λ rates t.
     let freed = c .before .before .before .before .before .before .before .before in
     let copied = freed .before .before .before .before in
     let looked = copied .before .before .before .before .before .before in
     let found = looked .before .before in
     let start = found .before .before .before .before .before in
-    take-chosen (start .pre .0) (found .first-pending .ensures) (something-left (found .first-pending .result) _ (looked .if1 .left)) t (start .args .buffer .now)
+    take-chosen (start .pre .0) (found .first-pending .ensures) (something-left (found .first-pending .result) _ (looked .if1 .left)) rates t (start .args .buffer .now)
     (start .pre .2) (start .pre .1) (copied .before .choice .ensures) (copied .copy-record .ensures) (freed .free .ensures) (c .before .before .launch .ensures)
 
 pub take-next-spec : {M : Type 1} → statement M

@@ -5,17 +5,17 @@ use Rattle.sending.proofs.write.Statement.{statement}
 use Rattle.sending.proofs.write.Tie as tie
 
 returns : tie.Need-returns
-returns c = λ t. write-short (c .before .before .before .pre) t _ _ (c .if1 .taken)
+returns c = λ rates t. write-short (c .before .before .before .pre) rates t _ _ (c .if1 .taken)
 
 queue-all-requires : tie.Need-queue-all-requires
 queue-all-requires c κs = (written-lent (c .before .before .before .before .before .before .pre) (c .before .word-at .ensures .0), c .before .before .before .if1 .left)
 
 returns-2 : tie.Need-returns-2
 returns-2 c =
-    λ t.
+    λ rates t.
     let read = c .before .before .before .before in
     let long = read .before .before in
-    write-done (long .before .before .before .pre) (read .word-at .ensures .0) t _ _ (long .if1 .left) (c .before .before .queue-all .ensures)
+    write-done (long .before .before .before .pre) (read .word-at .ensures .0) rates t _ _ (long .if1 .left) (c .before .before .queue-all .ensures)
 
 pub write-spec : {M : Type 1} → statement M
 write-spec =

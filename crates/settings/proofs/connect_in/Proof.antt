@@ -10,19 +10,19 @@ use Rattle.settings.proofs.connect_in.Tie as tie
 
 returns : tie.Need-returns
 returns c =
-    connect-refused (now (c .before .before .before .args .r)) (c .before .before .before .pre .0) (c .before .before .before .pre .1) (c .before .before .before .args .line) (c .before .before .before .args .protocol) (c .before .before .before .args .flags) (c .before .before .before .args .rate) _ (c .before .connect-code .ensures) (c .if1 .taken)
+    connect-refused (now (c .before .before .before .before .args .r)) (c .before .before .before .before .pre .0) (c .before .before .before .before .pre .1) (now (c .before .before .before .before .args .rates)) (c .before .before .before .before .args .line) (c .before .before .before .before .args .protocol) (c .before .before .before .before .args .flags) (c .before .before .before .before .args .rate) _ (c .before .connect-code .ensures) (c .if1 .taken)
 
 returns-2 : tie.Need-returns-2
 returns-2 c =
-    connect-in-use (now (c .before .before .before .before .before .args .r)) (c .before .before .before .before .before .pre .0) (c .before .before .before .before .before .pre .1) (c .before .before .before .before .before .args .line) (c .before .before .before .before .before .args .protocol) (c .before .before .before .before .before .args .flags) (c .before .before .before .before .before .args .rate) (sym (c .before .before .if1 .left) ∙ c .before .before .before .connect-code .ensures) (c .if2 .taken)
+    connect-in-use (now (c .before .before .before .before .before .before .args .r)) (c .before .before .before .before .before .before .pre .0) (c .before .before .before .before .before .before .pre .1) (now (c .before .before .before .before .before .before .args .rates)) (c .before .before .before .before .before .before .args .line) (c .before .before .before .before .before .before .args .protocol) (c .before .before .before .before .before .before .args .flags) (c .before .before .before .before .before .before .args .rate) (sym (c .before .before .if1 .left) ∙ c .before .before .before .connect-code .ensures) (c .if2 .taken)
 
 same-length : tie.Need-same-length
 same-length c =
-    omega (arith, length-set (putMid 5 4 (putMid 1 4 (now (c .before .before .before .before .before .before .before .before .before .before .before .before .before .args .r)) (c .before .before .before .before .before .before .put-word .last .0)) (c .before .before .put-word2 .last .0)) 0 1)
+    omega (arith, length-set (putMid 5 4 (putMid 1 4 (now (c .before .before .before .before .before .before .before .before .before .before .before .before .before .before .args .r)) (c .before .before .before .before .before .before .put-word .last .0)) (c .before .before .put-word2 .last .0)) 0 1)
 
 returns-3 : tie.Need-returns-3
 returns-3 c =
-    connect-fresh (now (c .before .before .before .before .before .before .before .before .before .before .before .before .before .args .r)) (c .before .before .before .before .before .before .before .before .before .before .before .before .before .pre .0) (c .before .before .before .before .before .before .before .before .before .before .before .before .before .pre .1) (c .before .before .before .before .before .before .before .before .before .before .before .before .before .args .line) (c .before .before .before .before .before .before .before .before .before .before .before .before .before .args .protocol) (c .before .before .before .before .before .before .before .before .before .before .before .before .before .args .flags) (c .before .before .before .before .before .before .before .before .before .before .before .before .before .args .rate) (sym (c .before .before .before .before .before .before .before .before .before .before .if1 .left) ∙ c .before .before .before .before .before .before .before .before .before .before .before .connect-code .ensures) (c .before .before .before .before .before .before .before .before .if2 .left) _ _ (c .before .before .before .before .before .before .put-word .ensures) (c .before .before .put-word2 .ensures)
+    connect-fresh (now (c .before .before .before .before .before .before .before .before .before .before .before .before .before .before .args .r)) (c .before .before .before .before .before .before .before .before .before .before .before .before .before .before .pre .0) (c .before .before .before .before .before .before .before .before .before .before .before .before .before .before .pre .1) (now (c .before .before .before .before .before .before .before .before .before .before .before .before .before .before .args .rates)) (c .before .before .before .before .before .before .before .before .before .before .before .before .before .before .args .line) (c .before .before .before .before .before .before .before .before .before .before .before .before .before .before .args .protocol) (c .before .before .before .before .before .before .before .before .before .before .before .before .before .before .args .flags) (c .before .before .before .before .before .before .before .before .before .before .before .before .before .before .args .rate) (sym (c .before .before .before .before .before .before .before .before .before .before .if1 .left) ∙ c .before .before .before .before .before .before .before .before .before .before .before .connect-code .ensures) (c .before .before .before .before .before .before .before .before .if2 .left) _ _ (c .before .before .before .before .before .before .put-word .ensures) (c .before .before .put-word2 .ensures)
 
 pub connect-in-spec : {M : Type 1} → statement M
 connect-in-spec =

@@ -6,7 +6,7 @@ use Rattle.settings.proofs.disconnect_in.Tie as tie
 
 returns : tie.Need-returns
 returns c =
-    λ t. disconnected (now (c .before .before .before .before .before .args .r)) (c .before .before .before .before .before .pre) t _ (c .before .before .zero .ensures)
+    λ rates t. disconnected (now (c .before .before .before .before .before .args .r)) (c .before .before .before .before .before .pre) rates t _ (c .before .before .zero .ensures)
 
 pub disconnect-in-spec : {M : Type 1} → statement M
 disconnect-in-spec = tie.close (tie.spec (λ c κs. search needs) (λ c. search needs) returns)
