@@ -1,9 +1,16 @@
--- The scope's numbers that bound something, each under one name. Assumes nothing.
-use Prim.Native.Nat.{ℕ}
+-- The scope's numbers that stand in more than one rule, each under one name. Assumes nothing.
+use Prim.Native.Nat.{ℕ, _-_}
 
--- the box has four lines, and a channel a line
+-- the box has four lines, 0 to 3, and a channel a line
 abbrev pub lines : ℕ
 lines = 4
+
+abbrev pub lastLine : ℕ
+lastLine = lines - 1
+
+-- the protocol of raw CAN
+abbrev pub canProtocol : ℕ
+canProtocol = 5
 
 -- at most ten filters and ten periodics a channel
 abbrev pub mostPlaces : ℕ
@@ -20,18 +27,24 @@ mostToRead = 32
 abbrev pub recordSize : ℕ
 recordSize = 36
 
+abbrev pub leastData : ℕ
+leastData = 4
+
 abbrev pub mostData : ℕ
 mostData = 12
 
 abbrev pub mostBytes : ℕ
 mostBytes = 8
 
--- an interval in milliseconds
+-- an interval in milliseconds, and a millisecond in microseconds
 abbrev pub leastInterval : ℕ
 leastInterval = 5
 
 abbrev pub mostInterval : ℕ
 mostInterval = 65535
+
+abbrev pub millisecond : ℕ
+millisecond = 1000
 
 -- an advance in microseconds
 abbrev pub mostAdvance : ℕ

@@ -1,9 +1,1 @@
-pub mod Tail
-pub mod Parts
-pub mod Records
-pub mod Stores
-pub mod Columns
-pub mod Filters
-pub mod Periodics
-pub mod Ten
 pub mod Region

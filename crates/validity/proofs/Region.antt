@@ -1,6 +1,6 @@
 -- What validity is of the parts of a region, of a region and of the whole memory, as code finds it out. Assumes nothing.
-use mathlib.Core.Path.{_≡_, refl, sym, ap, _∙_}
-use Prim.Native.Nat.{ℕ, zero, suc}
+use mathlib.Core.Path.{_≡_, refl, sym, ap, ap₂, _∙_}
+use Prim.Native.Nat.{ℕ, zero, suc, _+_, _-_}
 use native.Mathlib.Omega.{arith}
 use mathlib.Core.Bool.{Bool, true, false, _&&_}
 use mathlib.Core.List.{List}
@@ -11,14 +11,17 @@ use borrow.Author.Tests.{eq-eqb, ne-eqb}
 use Rattle.codec.specs.Plain.{member, allZero}
 use Rattle.codec.specs.Word.{wordAt}
 use Rattle.codec.specs.Code.{Code, word32, both, bothOn, via, such, mark, many, slot, upTo, upToOne, validAll, validSlot}
-use Rattle.codec.proofs.Word.{word-part}
+use Rattle.codec.proofs.Word.{word-part, word-drop}
 use Rattle.machine.specs.Codes.{threeRates}
 use Rattle.machine.specs.Channel.{isFlags}
+use Rattle.machine.specs.Limits.{lines, mostWritten, mostToRead}
+use Rattle.layout.specs.Sizes.{numberSize, configSize, filtersSize, periodicsSize, writtenSize, flightSize, queueSize, sendingSize, receivingSize, flagsAt, filtersAt, periodicsAt, receivingAt, regionSize, memorySize}
 use Rattle.layout.specs.Record.{outCell, inCell}
 use Rattle.layout.specs.Memory.{configFits, config, filters, periodics, sendingPart, receivingPart, rest, openPart, region, memory, valid}
 use Rattle.layout.proofs.Sizes.{filters-size, periodics-size, written-size, queue-size, sending-size, config-size, memory-size}
-use Rattle.validity.specs.Place.{cell, placesValid}
-use Rattle.validity.proofs.Parts.{Bytes, less, rest-part, behind-word, both-is, mark-is, at-rest}
+use Rattle.stores.specs.Held.{cell}
+use Rattle.ten_places.specs.Place.{placesValid}
+use Rattle.stores.proofs.Parts.{Bytes, less, rest-part, behind-word, both-is, mark-is, at-rest}
 
 -- ---- the configuration
 
@@ -44,78 +47,85 @@ config-flat m t = sym (λ j. settings-is m t j && (isFlags (first-word m j) && m
 -- ---- the parts of an open channel
 
 module _ (flags : ℕ) where
-  pub sending-flat : (m : List ℕ) → length m ≡ 1064
-      → (placesValid true flags (take 450 m) && (upTo 16 (cell true flags) .valid (take 577 (drop 450 m)) && upTo 1 (cell true flags) .valid (take 37 (drop 1027 m)))) ≡ sendingPart flags .valid m
+  pub sending-flat : (m : List ℕ) → length m ≡ sendingSize
+      → (placesValid true flags (take periodicsSize m) && (upTo mostWritten (cell true flags) .valid (take writtenSize (drop periodicsSize m)) && upTo 1 (cell true flags) .valid (take flightSize (drop (periodicsSize + writtenSize) m)))) ≡ sendingPart flags .valid m
   unfolding sendingPart via upToOne cell placesValid
   sending-flat m h =
-      sym (both-is (periodics flags) (both (upTo 16 (outCell flags)) (upToOne (outCell flags))) 450 m (periodics-size flags)
-      ∙ ap (λ (b : Bool). periodics flags .valid (take 450 m) && b)
-      (both-is (upTo 16 (outCell flags)) (upToOne (outCell flags)) 577 (drop 450 m) (written-size flags)
-      ∙ ap (λ (x : List ℕ). upTo 16 (outCell flags) .valid (take 577 (drop 450 m)) && upTo 1 (outCell flags) .valid x) (drop-drop 577 450 m ∙ sym (rest-part 1027 37 m h))))
+      sym (both-is (periodics flags) (both (upTo mostWritten (outCell flags)) (upToOne (outCell flags))) periodicsSize m (periodics-size flags)
+      ∙ ap (λ (b : Bool). periodics flags .valid (take periodicsSize m) && b)
+      (both-is (upTo mostWritten (outCell flags)) (upToOne (outCell flags)) writtenSize (drop periodicsSize m) (written-size flags)
+      ∙ ap (λ (x : List ℕ). upTo mostWritten (outCell flags) .valid (take writtenSize (drop periodicsSize m)) && upTo 1 (outCell flags) .valid x) (drop-drop writtenSize periodicsSize m ∙ sym (rest-part (periodicsSize + writtenSize) flightSize m h))))
 
-  pub receiving-flat : (m : List ℕ) → Bytes m → (upTo 32 (cell false flags) .valid (take 1153 m) && leb (getD m 1153 0) 1) ≡ receivingPart flags .valid m
+  pub receiving-flat : (m : List ℕ) → Bytes m → (upTo mostToRead (cell false flags) .valid (take queueSize m) && leb (getD m queueSize 0) 1) ≡ receivingPart flags .valid m
   unfolding receivingPart via cell
   receiving-flat m t =
-      sym (both-is (upTo 32 (inCell flags)) mark 1153 m (queue-size flags)
-      ∙ ap (λ (b : Bool). upTo 32 (inCell flags) .valid (take 1153 m) && b) (mark-is (drop 1153 m) (less 1153 m t) ∙ ap (λ (k : ℕ). leb k 1) (at-rest 1153 m)))
+      sym (both-is (upTo mostToRead (inCell flags)) mark queueSize m (queue-size flags)
+      ∙ ap (λ (b : Bool). upTo mostToRead (inCell flags) .valid (take queueSize m) && b) (mark-is (drop queueSize m) (less queueSize m t) ∙ ap (λ (k : ℕ). leb k 1) (at-rest queueSize m)))
 
-  rest-flat : (m : List ℕ) → length m ≡ 2497
-      → rest flags .valid (drop 9 m)
-      ≡ (placesValid false flags (take 270 (drop 9 m)) && (sendingPart flags .valid (take 1064 (drop 279 m)) && receivingPart flags .valid (take 1154 (drop 1343 m))))
+  -- what lies behind the configuration, each part where it begins in the region
+  rest-flat : (m : List ℕ) → length m ≡ regionSize
+      → rest flags .valid (drop filtersAt m)
+      ≡ (placesValid false flags (take filtersSize (drop filtersAt m))
+      && (sendingPart flags .valid (take sendingSize (drop periodicsAt m)) && receivingPart flags .valid (take receivingSize (drop receivingAt m))))
   unfolding rest placesValid
   rest-flat m h =
-      both-is (filters flags) (both (sendingPart flags) (receivingPart flags)) 270 (drop 9 m) (filters-size flags)
-      ∙ ap (λ (b : Bool). filters flags .valid (take 270 (drop 9 m)) && b)
-      (ap (λ (x : List ℕ). both (sendingPart flags) (receivingPart flags) .valid x) (drop-drop 270 9 m)
-      ∙ both-is (sendingPart flags) (receivingPart flags) 1064 (drop 279 m) (sending-size flags)
-      ∙ ap (λ (x : List ℕ). sendingPart flags .valid (take 1064 (drop 279 m)) && receivingPart flags .valid x) (drop-drop 1064 279 m ∙ sym (rest-part 1343 1154 m h)))
+      both-is (filters flags) (both (sendingPart flags) (receivingPart flags)) filtersSize (drop filtersAt m) (filters-size flags)
+      ∙ ap (λ (b : Bool). filters flags .valid (take filtersSize (drop filtersAt m)) && b)
+      (ap (λ (x : List ℕ). both (sendingPart flags) (receivingPart flags) .valid x) (drop-drop filtersSize filtersAt m)
+      ∙ both-is (sendingPart flags) (receivingPart flags) sendingSize (drop periodicsAt m) (sending-size flags)
+      ∙ ap (λ (x : List ℕ). sendingPart flags .valid (take sendingSize (drop periodicsAt m)) && receivingPart flags .valid x)
+      (drop-drop sendingSize periodicsAt m ∙ sym (rest-part receivingAt receivingSize m h)))
 
 -- the flags stand at the front
-word-take : (m : List ℕ) → wordAt 0 (take 9 m) ≡ wordAt 0 m
+word-take : (m : List ℕ) → wordAt 0 (take configSize m) ≡ wordAt 0 m
 unfolding wordAt
 word-take m = omega (arith, getD-take 9 m 0 0 (omega arith), getD-take 9 m 1 0 (omega arith), getD-take 9 m 2 0 (omega arith), getD-take 9 m 3 0 (omega arith))
 
-config-key : (m : List ℕ) → config .get (take 9 m) .flags ≡ wordAt 0 m
+config-key : (m : List ℕ) → config .get (take configSize (drop flagsAt m)) .flags ≡ wordAt flagsAt m
 unfolding config such via
-config-key m = first-word (take 9 m) ∙ word-take m
+config-key m = first-word (take configSize (drop flagsAt m)) ∙ word-take (drop flagsAt m) ∙ word-drop 0 flagsAt m
 
-pub open-flat : (m : List ℕ) → length m ≡ 2497
-    → (config .valid (take 9 m)
-    && (placesValid false (wordAt 0 m) (take 270 (drop 9 m)) && (sendingPart (wordAt 0 m) .valid (take 1064 (drop 279 m)) && receivingPart (wordAt 0 m) .valid (take 1154 (drop 1343 m)))))
-    ≡ openPart .valid m
+pub open-flat : (m : List ℕ) → length m ≡ regionSize
+    → (config .valid (take configSize (drop flagsAt m))
+    && (placesValid false (wordAt flagsAt m) (take filtersSize (drop filtersAt m))
+    && (sendingPart (wordAt flagsAt m) .valid (take sendingSize (drop periodicsAt m))
+    && receivingPart (wordAt flagsAt m) .valid (take receivingSize (drop receivingAt m)))))
+    ≡ openPart .valid (drop flagsAt m)
 unfolding openPart via bothOn
 open-flat m h =
-    sym (ap (λ (k : ℕ). config .valid (take k m) && rest (config .get (take k m) .flags) .valid (drop k m)) config-size
-    ∙ ap (λ (k : ℕ). config .valid (take 9 m) && rest k .valid (drop 9 m)) (config-key m)
-    ∙ ap (λ (b : Bool). config .valid (take 9 m) && b) (rest-flat (wordAt 0 m) m h))
+    let c : Bool = config .valid (take configSize (drop flagsAt m)) in
+    sym (ap (λ (k : ℕ). config .valid (take k (drop flagsAt m)) && rest (config .get (take k (drop flagsAt m)) .flags) .valid (drop k (drop flagsAt m))) config-size
+    ∙ ap₂ (λ (k : ℕ) (x : List ℕ). c && rest k .valid x) (config-key m) (drop-drop configSize flagsAt m)
+    ∙ ap (λ (b : Bool). c && b) (rest-flat (wordAt flagsAt m) m h))
 
 -- ---- a region
 
-module _ (m : List ℕ) (h : length m ≡ 2498) where
-  pub region-closed : getD m 0 0 ≡ 0 → allZero (take 2497 (drop 1 m)) ≡ region .valid m
+module _ (m : List ℕ) where
+  pub region-closed : length m ≡ regionSize → getD m 0 0 ≡ 0 → allZero (take (regionSize - flagsAt) (drop flagsAt m)) ≡ region .valid m
   unfolding region via slot
-  region-closed e = ap (λ (x : List ℕ). allZero x) (rest-part 1 2497 m h) ∙ ap (λ (k : ℕ). validSlot openPart k (drop 1 m)) (sym e)
+  region-closed h e =
+      ap (λ (x : List ℕ). allZero x) (rest-part flagsAt (regionSize - flagsAt) m h) ∙ ap (λ (k : ℕ). validSlot openPart k (drop flagsAt m)) (sym e)
 
-  pub region-open : getD m 0 0 ≡ 1 → openPart .valid (take 2497 (drop 1 m)) ≡ region .valid m
+  pub region-open : getD m 0 0 ≡ 1 → openPart .valid (drop flagsAt m) ≡ region .valid m
   unfolding region via slot
-  region-open e = ap (openPart .valid) (rest-part 1 2497 m h) ∙ ap (λ (k : ℕ). validSlot openPart k (drop 1 m)) (sym e)
+  region-open e = ap (λ (k : ℕ). validSlot openPart k (drop flagsAt m)) (sym e)
 
   pub region-neither : (getD m 0 0 ≡ 0 → ⊥) → (getD m 0 0 ≡ 1 → ⊥) → false ≡ region .valid m
   unfolding region via slot
   region-neither a b = go (getD m 0 0) a b
     where
-      go : (k : ℕ) → (k ≡ 0 → ⊥) → (k ≡ 1 → ⊥) → false ≡ validSlot openPart k (drop 1 m)
+      go : (k : ℕ) → (k ≡ 0 → ⊥) → (k ≡ 1 → ⊥) → false ≡ validSlot openPart k (drop flagsAt m)
       go zero a b = absurd (a refl)
       go (suc zero) a b = absurd (b refl)
       go (suc (suc k)) a b = refl
 
 -- ---- the whole
 
-pub not-long : (m : List ℕ) → (length m ≡ 9996 → ⊥) → false ≡ valid m
+pub not-long : (m : List ℕ) → (length m ≡ memorySize → ⊥) → false ≡ valid m
 unfolding valid
 not-long m h = sym (ap (λ (b : Bool). b && memory .valid m) (ne-eqb (length m) (memory .size) (λ e. h (e ∙ memory-size))))
 
-pub valid-is : (m : List ℕ) → length m ≡ 9996 → Bytes m → (good : Bool) → good ≡ validAll region 4 (drop 4 m) → good ≡ valid m
+pub valid-is : (m : List ℕ) → length m ≡ memorySize → Bytes m → (good : Bool) → good ≡ validAll region lines (drop numberSize m) → good ≡ valid m
 unfolding valid memory via many
 valid-is m h t good g =
-    g ∙ sym (behind-word (many 4 region) m t) ∙ ap (λ (b : Bool). b && both word32 (many 4 region) .valid m) (sym (eq-eqb (length m) (memory .size) (h ∙ sym memory-size)))
+    g ∙ sym (behind-word (many lines region) m t) ∙ ap (λ (b : Bool). b && both word32 (many lines region) .valid m) (sym (eq-eqb (length m) (memory .size) (h ∙ sym memory-size)))

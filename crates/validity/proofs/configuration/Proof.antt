@@ -17,7 +17,7 @@ returns : tie.Need-returns
 returns c = let first = c .before .before .before in
     let s : List ℕ = first .before .before .before .args .s .now in
     let flags = c .before .before .is-flags .ensures ∙ ap isFlags (first .word-at .ensures .0) in
-    let rate = c .is-rate .ensures ∙ ap (λ (r : ℕ). member r threeRates) (c .before .word-at2 .ensures .0) in
+    let rate = c .is-known-rate .ensures ∙ ap (λ (r : ℕ). member r threeRates) (c .before .word-at2 .ensures .0) in
     (λ j. leb (getD s 8 0) 1 && (flags j && rate j)) ∙ config-flat s (first .word-at .ensures .1)
 
 pub configuration-spec : {M : Type 1} → statement M

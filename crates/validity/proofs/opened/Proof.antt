@@ -1,7 +1,8 @@
 -- `validity::opened` meets its contract. Assumes nothing.
 use Rattle.validity.proofs.Region.{open-flat}
-use Rattle.validity.specs.Place.{placesSize, placesValid}
+use Rattle.ten_places.specs.Place.{placesSize, placesValid}
 use Rattle.layout.specs.Memory.{sendingPart, receivingPart}
+use Rattle.layout.specs.Sizes.{filtersSize, sendingSize, receivingSize, filtersAt, periodicsAt, receivingAt}
 use lib.ListN.{take, drop}
 use Prim.Native.Nat.{ℕ}
 use mathlib.Core.List.{List}
@@ -11,9 +12,9 @@ use borrow.Author.Needs.{needs}
 use Rattle.validity.proofs.opened.Statement.{statement}
 use Rattle.validity.proofs.opened.Tie as tie
 
-places-requires : tie.Need-places-requires
+valid-requires : tie.Need-valid-requires
 unfolding placesSize
-places-requires c κs = search needs
+valid-requires c κs = search needs
 
 returns : tie.Need-returns
 returns c = let sent = c .before .before in
@@ -23,9 +24,9 @@ returns c = let sent = c .before .before in
     let start = first .before .before in
     let s : List ℕ = start .args .s .now in
     let f = first .word-at .ensures .0 in
-    let filters = placed .places .ensures ∙ ap (λ (k : ℕ). placesValid false k (take 270 (drop 9 s))) f in
-    let sends = sent .sending .ensures ∙ ap (λ (k : ℕ). sendingPart k .valid (take 1064 (drop 279 s))) f in
-    let receives = c .receiving .ensures ∙ ap (λ (k : ℕ). receivingPart k .valid (take 1154 (drop 1343 s))) f in
+    let filters = placed .valid .ensures ∙ ap (λ (k : ℕ). placesValid false k (take filtersSize (drop filtersAt s))) f in
+    let sends = sent .sending .ensures ∙ ap (λ (k : ℕ). sendingPart k .valid (take sendingSize (drop periodicsAt s))) f in
+    let receives = c .receiving .ensures ∙ ap (λ (k : ℕ). receivingPart k .valid (take receivingSize (drop receivingAt s))) f in
     ap₂ (λ (x y : Bool). x && y) (set .configuration .ensures) (ap₂ (λ (x y : Bool). x && y) filters (ap₂ (λ (x y : Bool). x && y) sends receives))
     ∙ open-flat s (start .pre)
 
@@ -41,7 +42,7 @@ opened-spec =
     (λ c. search needs)
     (λ c. search needs)
     (λ c. search needs)
-    places-requires
+    valid-requires
     (λ c. search needs)
     (λ c. search needs)
     (λ c. search needs)

@@ -1,19 +1,19 @@
 -- `validity::sending` meets its contract. Assumes nothing.
 use Rattle.validity.proofs.Region.{sending-flat}
-use Rattle.validity.specs.Place.{placesSize}
+use Rattle.ten_places.specs.Place.{placesSize}
 use mathlib.Core.Bool.{Bool, _&&_}
 use mathlib.Core.Path.{ap₂, _∙_}
 use borrow.Author.Needs.{needs}
 use Rattle.validity.proofs.sending.Statement.{statement}
 use Rattle.validity.proofs.sending.Tie as tie
 
-places-requires : tie.Need-places-requires
+valid-requires : tie.Need-valid-requires
 unfolding placesSize
-places-requires c κs = search needs
+valid-requires c κs = search needs
 
 returns : tie.Need-returns
 returns c = let start = c .before .before .before .before .before .before .before in
-    ap₂ (λ (x y : Bool). x && y) (c .before .before .before .before .places .ensures) (ap₂ (λ (x y : Bool). x && y) (c .before .before .store .ensures) (c .store2 .ensures))
+    ap₂ (λ (x y : Bool). x && y) (c .before .before .before .before .valid .ensures) (ap₂ (λ (x y : Bool). x && y) (c .before .before .store .ensures) (c .store2 .ensures))
     ∙ sending-flat (start .args .flags) (start .args .s .now) (start .pre)
 
 pub sending-spec : {M : Type 1} → statement M
@@ -23,7 +23,7 @@ sending-spec =
     (λ c. search needs)
     (λ c. search needs)
     (λ c. search needs)
-    places-requires
+    valid-requires
     (λ c. search needs)
     (λ c. search needs)
     (λ c. search needs)

@@ -1,0 +1,65 @@
+-- DEMANDS 1 AND 3 FROM POWER-ON, in the demands' own words: whatever has happened to the box since, and for any set of rates. No premise on the
+-- device is left. Channels go by their line: channel number c is that of line c - 1. Assumes nothing.
+use Prim.Native.Nat.{ℕ, _<_}
+use mathlib.Core.Path.{_≡_, refl}
+use mathlib.Core.Logic.{_≢_}
+use mathlib.Core.Bool.{true, false}
+use mathlib.Core.List.{List}
+use Rattle.machine.specs.Limits.{lines}
+use Rattle.machine.specs.Channel.{Call}
+use Rattle.machine.specs.Device.{Event, call, lentBy, powerOn, chanAt, step, run, answers}
+use Rattle.machine.specs.Demands.{FourChannels, refusal, concerns, strike, answersOf, Projected, Exchanged, SameToEach, Arranged, Ignored, Names, byCall}
+use Rattle.machine.proofs.Dispatch.{run-channels-kept}
+use Rattle.machine.proofs.Refusals.{refused-leaves}
+use Rattle.machine.proofs.Isolation.{projection-from, ignored, arranged, different-exchange}
+
+module _ (rates : List ℕ) where
+  -- a box reached from power-on has its four channels
+  four : (es : List Event) → FourChannels (run rates powerOn es)
+  unfolding powerOn
+  four es = run-channels-kept rates powerOn es
+
+  -- ---- demand 1
+
+  -- A REFUSED CALL CHANGES NOTHING: after any events it leaves the whole box and the lent buffer as they were
+  pub refused-changes-nothing : (es : List Event) (e : Event) → refusal e (step rates (run rates powerOn es) e .1) ≡ true
+      → (step rates (run rates powerOn es) e .0 ≡ run rates powerOn es) × (step rates (run rates powerOn es) e .1 .buffer ≡ lentBy e)
+  refused-changes-nothing es e = refused-leaves rates (run rates powerOn es) e (four es)
+
+  -- ---- demand 3
+
+  -- STRIKING OUT, from any sequence of events, all that does not concern a channel changes nothing that the channel receives or holds
+  pub struck-out : (i : ℕ) (es : List Event) → i < lines → Projected rates i powerOn powerOn es
+  unfolding powerOn
+  struck-out i es h = projection-from rates i es powerOn h
+
+  -- it receives the same answers
+  pub struck-out-receives : (i : ℕ) (es : List Event) → i < lines → answersOf rates i powerOn es ≡ answers rates powerOn (strike i es)
+  struck-out-receives i es h = struck-out i es h .receives
+
+  -- it holds the same: configuration, filters, periodics, written records, flight, queue, lost mark
+  pub struck-out-holds : (i : ℕ) (es : List Event) → i < lines → chanAt i (run rates powerOn es) ≡ chanAt i (run rates powerOn (strike i es))
+  struck-out-holds i es h = struck-out i es h .ends .chan
+
+  -- NEIGHBOURING CALLS ON DIFFERENT CHANNELS COMMUTE, after any events and before any others: the whole box ends the same, and each event gets the
+  -- same answer
+  pub calls-commute : (before : List Event) (k k′ : ℕ) (x x′ : Call) (after : List Event) → k ≢ k′
+      → Exchanged rates powerOn before (call k x) (call k′ x′) after
+  unfolding powerOn
+  calls-commute before k k′ x x′ after h = different-exchange rates powerOn before after refl byCall byCall h
+
+  -- so do any two neighbours, calls, connects or frames, that name different channels
+  pub neighbours-commute : (before : List Event) {e e′ : Event} {k k′ : ℕ} (after : List Event) → Names e k → Names e′ k′ → k ≢ k′
+      → Exchanged rates powerOn before e e′ after
+  unfolding powerOn
+  neighbours-commute before after n n′ h = different-exchange rates powerOn before after refl n n′ h
+
+  -- AN EVENT THAT CONCERNS NO CHANNEL, as a call that names none, changes nothing, and no state shows in its answer
+  pub nobodys-event : (es : List Event) (e : Event) → ((i : ℕ) → i < lines → concerns i e ≡ false) → Ignored rates (run rates powerOn es) e
+  nobodys-event es e out = ignored rates (run rates powerOn es) e (four es) out
+
+  -- ARRANGEMENT. Two sequences that leave each channel the same events in the same order end in the same box, and each channel receives the same
+  -- answers
+  pub arranged-alike : (es zs : List Event) → SameToEach es zs → Arranged rates powerOn es zs
+  unfolding powerOn
+  arranged-alike es zs same = arranged rates powerOn es zs refl same

@@ -1,0 +1,4 @@
+pub mod Columns
+pub mod Filters
+pub mod Periodics
+pub mod Ten
