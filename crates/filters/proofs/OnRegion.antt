@@ -1,4 +1,4 @@
--- The filters in the region of an open channel: the part that is lent, and what each call promises. Assumes nothing.
+-- The filters in the region of an open channel: what each call promises. Assumes nothing.
 use mathlib.Core.Path.{_≡_, sym, ap, _∙_}
 use Prim.Native.Nat.{ℕ, _+_, _-_, _≤_, _<_}
 use native.Mathlib.Omega.{arith}
@@ -11,39 +11,35 @@ use borrow.Rule.Slice.PartMut.{putMid}
 use Rattle.codec.specs.Plain.{within}
 use Rattle.codec.specs.Word.{wordAt}
 use Rattle.codec.proofs.Tests.{true-T, within-low, within-high}
+use Rattle.machine.specs.Limits.{mostPlaces}
 use Rattle.machine.specs.Filter.{Slots, Filter, free, taken, has}
 use Rattle.machine.proofs.Slots.{has-place, has-none}
 use Rattle.machine.specs.Channel.{filterCode, filterOf, startFilter, stopFilter, says, Outcome, withFilters}
+use Rattle.layout.specs.Sizes.{filtersAt, filtersSize}
 use Rattle.layout.specs.Memory.{filters}
 use Rattle.layout.specs.Promise.{gives, Opened, callOutcome}
 use Rattle.layout.proofs.Places.{fl}
 use Rattle.layout.proofs.Region.{openOf, word-of, stays, moves, flags-part, filters-part}
-use Rattle.filters.specs.Part.{FilterPart}
-use Rattle.filters.proofs.Held.{any-flags, ten-held, is-empty, is-taken}
+use Rattle.filterbank.proofs.Held.{ten-held, is-empty, is-taken}
+use Rattle.filterbank.proofs.Lent.{part-lent, held-is}
 use Rattle.filters.proofs.Steps.{start-refused, start-done, stop-refused, stop-done}
 
 -- the place of one of those numbers, counted from 0
-pub place-of : (n : ℕ) → within 1 10 n ≡ true → (1 ≤ n) × (n - 1 < 10)
+pub place-of : (n : ℕ) → within 1 mostPlaces n ≡ true → (1 ≤ n) × (n - 1 < mostPlaces)
 place-of n w =
-    let t = true-T (within 1 10 n) w in
-    let l = within-low 1 10 n t in
-    let h = within-high 1 10 n t in (l, omega arith)
+    let t = true-T (within 1 mostPlaces n) w in
+    let l = within-low 1 mostPlaces n t in
+    let h = within-high 1 mostPlaces n t in (l, omega arith)
 
 module _ (r : List ℕ) (f : Opened r) where
-  pub part-lent : FilterPart (take 270 (drop 10 r))
-  part-lent = let p = filters-part r f in record { flags = fl (openOf r); long = p .long; valid = p .valid }
-
-  pub held-is : (flags : ℕ) → filters flags .get (take 270 (drop 10 r)) ≡ openOf r .filters
-  held-is flags = any-flags flags (fl (openOf r)) (take 270 (drop 10 r)) ∙ filters-part r f .got
-
   pub flags-are : wordAt 1 r ≡ openOf r .config .flags
   flags-are = word-of (flags-part r f)
 
-  ten-places : length (openOf r .filters) ≡ 10
-  ten-places = ap length (sym (held-is 0)) ∙ ten-held (take 270 (drop 10 r)) part-lent 0
+  ten-places : length (openOf r .filters) ≡ mostPlaces
+  ten-places = ap length (sym (held-is r f 0)) ∙ ten-held (take filtersSize (drop filtersAt r)) (part-lent r f) 0
 
-  moved : (ys : List ℕ) (i : ℕ) (x : Option Filter) → ((flags : ℕ) → ys ≡ filters flags .put (set (filters flags .get (take 270 (drop 10 r))) i x)) → ys ≡ filters (fl (openOf r)) .put (set (openOf r .filters) i x)
-  moved ys i x e = e (fl (openOf r)) ∙ ap (λ (s : Slots Filter). filters (fl (openOf r)) .put (set s i x)) (held-is (fl (openOf r)))
+  moved : (ys : List ℕ) (i : ℕ) (x : Option Filter) → ((flags : ℕ) → ys ≡ filters flags .put (set (filters flags .get (take filtersSize (drop filtersAt r))) i x)) → ys ≡ filters (fl (openOf r)) .put (set (openOf r .filters) i x)
+  moved ys i x e = e (fl (openOf r)) ∙ ap (λ (s : Slots Filter). filters (fl (openOf r)) .put (set s i x)) (held-is r f (fl (openOf r)))
 
   module _ (rates : List ℕ) (t : ℕ) where
     module _ (kind : ℕ) (mask pattern : List ℕ) where
@@ -51,8 +47,8 @@ module _ (r : List ℕ) (f : Opened r) where
       not-started code e n = stays r f rates t (startFilter kind mask pattern) code 0 [] (start-refused rates t (openOf r) kind mask pattern code e n)
 
       pub started : (place : ℕ) (ys : List ℕ) → 0 ≡ filterCode (openOf r) kind mask pattern → place ≡ free (openOf r .filters)
-          → ((flags : ℕ) → ys ≡ filters flags .put (set (filters flags .get (take 270 (drop 10 r))) place (some (filterOf kind mask pattern))))
-          → gives 0 (place + 1) [] (putMid 10 270 r ys) ≡ callOutcome rates t r (startFilter kind mask pattern)
+          → ((flags : ℕ) → ys ≡ filters flags .put (set (filters flags .get (take filtersSize (drop filtersAt r))) place (some (filterOf kind mask pattern))))
+          → gives 0 (place + 1) [] (putMid filtersAt filtersSize r ys) ≡ callOutcome rates t r (startFilter kind mask pattern)
       started place ys e p y =
           let x = some (filterOf kind mask pattern) in
           moves r f rates t (startFilter kind mask pattern) _ 0 (place + 1) [] _
@@ -64,25 +60,25 @@ module _ (r : List ℕ) (f : Opened r) where
       refused : has (openOf r .filters) number ≡ false → gives 0x16 0 [] r ≡ callOutcome rates t r (stopFilter number)
       refused e = stays r f rates t (stopFilter number) 0x16 0 [] (stop-refused rates t (openOf r) number e)
 
-      pub no-number : within 1 10 number ≡ false → gives 0x16 0 [] r ≡ callOutcome rates t r (stopFilter number)
+      pub no-number : within 1 mostPlaces number ≡ false → gives 0x16 0 [] r ≡ callOutcome rates t r (stopFilter number)
       no-number w = refused (has-none (openOf r .filters) number (ap (λ (k : ℕ). within 1 k number) ten-places ∙ w))
 
-      module _ (w : within 1 10 number ≡ true) where
+      module _ (w : within 1 mostPlaces number ≡ true) where
         abbrev i : ℕ
         i = number - 1
 
-        here : getD r (10 + i) 0 ≡ getD (take 270 (drop 10 r)) i 0
-        here = let k = place-of number w in sym (getD-take 270 (drop 10 r) i 0 (omega arith) ∙ getD-drop 10 r i 0)
+        here : getD r (filtersAt + i) 0 ≡ getD (take filtersSize (drop filtersAt r)) i 0
+        here = let k = place-of number w in sym (getD-take filtersSize (drop filtersAt r) i 0 (omega arith) ∙ getD-drop filtersAt r i 0)
 
-        held-here : (b : Bool) → ((flags : ℕ) → taken (getD (filters flags .get (take 270 (drop 10 r))) i none) ≡ b) → has (openOf r .filters) number ≡ b
-        held-here b e = has-place (openOf r .filters) number i (omega (arith, place-of number w .0)) ∙ ap (λ (s : Slots Filter). taken (getD s i none)) (sym (held-is 0)) ∙ e 0
+        held-here : (b : Bool) → ((flags : ℕ) → taken (getD (filters flags .get (take filtersSize (drop filtersAt r))) i none) ≡ b) → has (openOf r .filters) number ≡ b
+        held-here b e = has-place (openOf r .filters) number i (omega (arith, place-of number w .0)) ∙ ap (λ (s : Slots Filter). taken (getD s i none)) (sym (held-is r f 0)) ∙ e 0
 
-        pub not-held : getD r (10 + i) 0 ≡ 0 → gives 0x16 0 [] r ≡ callOutcome rates t r (stopFilter number)
-        not-held e = refused (held-here false (is-empty (take 270 (drop 10 r)) part-lent i (place-of number w .1) (sym here ∙ e)))
+        pub not-held : getD r (filtersAt + i) 0 ≡ 0 → gives 0x16 0 [] r ≡ callOutcome rates t r (stopFilter number)
+        not-held e = refused (held-here false (is-empty (take filtersSize (drop filtersAt r)) (part-lent r f) i (place-of number w .1) (sym here ∙ e)))
 
-        pub stopped : (getD r (10 + i) 0 ≡ 0 → ⊥) → (ys : List ℕ) → ((flags : ℕ) → ys ≡ filters flags .put (set (filters flags .get (take 270 (drop 10 r))) i none))
-            → gives 0 0 [] (putMid 10 270 r ys) ≡ callOutcome rates t r (stopFilter number)
+        pub stopped : (getD r (filtersAt + i) 0 ≡ 0 → ⊥) → (ys : List ℕ) → ((flags : ℕ) → ys ≡ filters flags .put (set (filters flags .get (take filtersSize (drop filtersAt r))) i none))
+            → gives 0 0 [] (putMid filtersAt filtersSize r ys) ≡ callOutcome rates t r (stopFilter number)
         stopped n ys y =
             moves r f rates t (stopFilter number) _ 0 0 [] _
-            (stop-done rates t (openOf r) number (held-here true (is-taken (take 270 (drop 10 r)) part-lent i (place-of number w .1) (λ e. n (here ∙ e)))))
+            (stop-done rates t (openOf r) number (held-here true (is-taken (take filtersSize (drop filtersAt r)) (part-lent r f) i (place-of number w .1) (λ e. n (here ∙ e)))))
             (filters-part r f .becomes ys (set (openOf r .filters) i none) (moved ys i none y))

@@ -17,7 +17,7 @@ use Rattle.machine.specs.Filter.{free, has}
 use Rattle.machine.specs.Channel.{Open, opened, withFilters, startFilter, stopFilter, says, unless, doneWith, shorter, filterCode, filterOf, onStartFilter, onStopFilter, onOpen}
 use Rattle.layout.specs.Memory.{typeOf, filterParts}
 use Rattle.layout.proofs.Tables.{failed, yes, neither}
-use Rattle.filters.specs.Part.{Checked}
+use Rattle.filters.specs.Checked.{Checked}
 
 -- ---- a start's checks, those of one code together
 

@@ -3,11 +3,19 @@ ghost use mathlib.Core.Path.{_≡_};
 ghost use mathlib.Core.List.{_++_};
 ghost use Prim.Native.Nat.{_≤_};
 ghost use lib.ListN.{length, drop};
-ghost use Rattle.codec.specs.Plain.{zeros};
+ghost use Rattle.machine.specs.Limits.{mostBytes};
 ghost use Rattle.machine.specs.Message.{idBytes, twelve};
 ghost use Rattle.machine.specs.Channel.{frameCode, offered};
 ghost use Rattle.layout.specs.Memory.{openPart, region};
 ghost use Rattle.layout.specs.Promise.{Opened};
+use places::FILTERS;
+use places::FLAGS;
+use places::NUMBER;
+use places::PERIODICS;
+use places::ROW;
+
+// The most bytes of a frame: what a row has behind the identifier.
+const MOST_BYTES: usize = ROW - NUMBER;
 
 // The code of a frame by its width mark, identifier and data, in the scope's order.
 pub fn frame_code(wide: u32, id: u32, bytes: &[u8]) -> u32
@@ -19,41 +27,31 @@ pub fn frame_code(wide: u32, id: u32, bytes: &[u8]) -> u32
     if id > can::id_limit(wide == 1) {
         return codes::ERR_INVALID_MSG;
     }
-    if bytes.len() > 8 {
+    if bytes.len() > MOST_BYTES {
         return codes::ERR_INVALID_MSG;
     }
     codes::STATUS_NOERROR
 }
 
-// The identifier and the data over twelve zeros.
-fn put_frame(s: &mut [u8], id: u32, bytes: &[u8])
-    requires { ⌜ (now s ≡ zeros 12) × (length (now bytes) ≤ 8) ⌝ }
-    ensures { λ u. ⌜ now (s .exit) ≡ twelve (idBytes id ++ now (bytes .entry)) ⌝ }
-{
-    integers::put_id(&mut s[0..4], id);
-    let e = 4 + bytes.len();
-    octets::copy(&mut s[4..e], bytes);
-}
-
-// The identifier and the data as twelve bytes, zeros behind them.
-fn twelve_bytes(id: u32, bytes: &[u8]) -> [u8; 12]
-    requires { ⌜ length (now bytes) ≤ 8 ⌝ }
+// The identifier and the data as a row, zeros behind them.
+fn twelve_bytes(id: u32, bytes: &[u8]) -> [u8; ROW]
+    requires { ⌜ length (now bytes) ≤ mostBytes ⌝ }
     ensures { λ r. ⌜ r ≡ twelve (idBytes id ++ now (bytes .entry)) ⌝ }
 {
-    let mut frame = [0u8; 12];
-    put_frame(&mut frame, id, bytes);
+    let mut frame = [0u8; ROW];
+    records::put_frame(&mut frame, id, bytes);
     frame
 }
 
 // Offers a good frame to an open channel: queued exactly if the connection takes its width and the filters let it in.
 pub fn offer(r: &mut [u8], clock: u32, wide: bool, id: u32, bytes: &[u8])
-    requires { ⌜ Opened (now r) × (length (now bytes) ≤ 8) ⌝ }
+    requires { ⌜ Opened (now r) × (length (now bytes) ≤ mostBytes) ⌝ }
     ensures { λ u. ⌜ now (r .exit) ≡ region .put (offered clock (openPart .get (drop 1 (now (r .entry)))) wide (idBytes id ++ now (bytes .entry))) ⌝ }
 {
-    if !can::takes_width(integers::word_at(r, 1), wide) {
+    if !can::takes_width(integers::word_at(r, FLAGS), wide) {
         return;
     }
-    if !filters::lets_in(&r[10..280], wide, twelve_bytes(id, bytes)) {
+    if !verdict::lets_in(&r[FILTERS..PERIODICS], wide, twelve_bytes(id, bytes)) {
         return;
     }
     receiving::receive(r, clock, wide, id, bytes);

@@ -15,12 +15,14 @@ use Rattle.codec.proofs.Tests.{left, right, join, or-either}
 use Rattle.codec.proofs.Lists.{all-drop}
 use Rattle.codec.proofs.Lawful.{such-test, such-under, both-first, both-second}
 use Rattle.codec.proofs.Word.{word-back, word-there}
+use Rattle.machine.specs.Limits.{recordSize, txFlagsIn, sizeIn, dataIn, mostData}
 use Rattle.machine.specs.Message.{bit, idOf, idBytes, Rec, twelve, received}
+use Rattle.layout.specs.Sizes.{numberSize}
 use Rattle.layout.specs.Record.{row, rec36, recParts, body, dataParts, dataFits, widthFits, outgoing, outCell}
 use Rattle.layout.proofs.Memory.{rec-lawful}
-use Rattle.message.specs.Cell.{numbers, padded}
-use Rattle.message.proofs.Laws.{record-is}
-use Rattle.receiving.specs.Queue.{Outgoing}
+use Rattle.records.specs.Cell.{numbers, padded}
+use Rattle.records.proofs.Laws.{record-is}
+use Rattle.receiving.specs.Outgoing.{Outgoing}
 
 -- ---- four bytes as an identifier, and what follows them
 
@@ -67,26 +69,26 @@ module _ (x : Rec) (t : T (rec36 .ok x)) where
   unfolding body via
   data-ok = such-test (both word32 (both word32 row)) dataFits (dataParts (x .bytes)) (both-second word32 body (x .time, x .bytes) (both-second word32 (both word32 body) (x .tx, (x .time, x .bytes)) behind-rx))
 
-  sized : (4 ≤ length (x .bytes)) × (length (x .bytes) ≤ 12)
+  sized : (4 ≤ length (x .bytes)) × (length (x .bytes) ≤ mostData)
   unfolding dataFits dataParts within
   sized =
       let n = length (x .bytes) in
       let e = eqb n n in
       let z = allZero (drop n (twelve (x .bytes))) in
-      let u = left (leb 4 n && leb n 12) e (left (leb 4 n && leb n 12 && e) z data-ok) in
-      (leb→le 4 n (left (leb 4 n) (leb n 12) u), leb→le n 12 (right (leb 4 n) (leb n 12) u))
+      let u = left (leb 4 n && leb n mostData) e (left (leb 4 n && leb n mostData && e) z data-ok) in
+      (leb→le 4 n (left (leb 4 n) (leb n mostData) u), leb→le n mostData (right (leb 4 n) (leb n mostData) u))
 
-  tx-at : wordAt 8 (rec36 .put x) ≡ x .tx
+  tx-at : wordAt txFlagsIn (rec36 .put x) ≡ x .tx
   unfolding numbers word wordAt
-  tx-at = ap (wordAt 8) (sym (record-is x)) ∙ word-back (x .tx) tx-fits
+  tx-at = ap (wordAt txFlagsIn) (sym (record-is x)) ∙ word-back (x .tx) tx-fits
 
-  size-at : wordAt 16 (rec36 .put x) ≡ length (x .bytes)
+  size-at : wordAt sizeIn (rec36 .put x) ≡ length (x .bytes)
   unfolding numbers word wordAt
-  size-at = ap (wordAt 16) (sym (record-is x)) ∙ word-back (length (x .bytes)) (omega (arith, sized .1))
+  size-at = ap (wordAt sizeIn) (sym (record-is x)) ∙ word-back (length (x .bytes)) (omega (arith, sized .1))
 
-  data-at : drop 24 (rec36 .put x) ≡ x .bytes ++ zeros (12 - length (x .bytes))
+  data-at : drop dataIn (rec36 .put x) ≡ x .bytes ++ zeros (mostData - length (x .bytes))
   unfolding numbers word padded
-  data-at = ap (λ (m : List ℕ). drop 24 m) (sym (record-is x))
+  data-at = ap (λ (m : List ℕ). drop dataIn m) (sym (record-is x))
 
 -- ---- a record that is held to be sent, and its echo
 
@@ -94,7 +96,7 @@ module _ (m : List ℕ) (o : Outgoing m) where
   abbrev x : Rec
   x = rec36 .get m
 
-  rec-size : rec36 .size ≡ 36
+  rec-size : rec36 .size ≡ recordSize
   unfolding rec36 body row via such both many word32 byte
   rec-size = refl
 
@@ -112,11 +114,11 @@ module _ (m : List ℕ) (o : Outgoing m) where
   fine : T (rec36 .ok x)
   fine = rec-lawful .ok-get m (o .long ∙ sym rec-size) valid
 
-  tx-is : wordAt 8 m ≡ x .tx
-  tx-is = ap (wordAt 8) (sym held) ∙ tx-at x fine
+  tx-is : wordAt txFlagsIn m ≡ x .tx
+  tx-is = ap (wordAt txFlagsIn) (sym held) ∙ tx-at x fine
 
-  size-is : wordAt 16 m ≡ length (x .bytes)
-  size-is = ap (wordAt 16) (sym held) ∙ size-at x fine
+  size-is : wordAt sizeIn m ≡ length (x .bytes)
+  size-is = ap (wordAt sizeIn) (sym held) ∙ size-at x fine
 
   -- its TxFlags are 0 or 256, and its size 4 to 12
   tx-small : x .tx ≤ 0x100
@@ -130,17 +132,17 @@ module _ (m : List ℕ) (o : Outgoing m) where
       (or-either (eqb (x .tx) 0x100) false (λ e. omega (arith, eqb→eq (x .tx) 0x100 e)) (λ e. absurd e))
       (right a b (left (a && b) c (left (a && b && c) d tests)))
 
-  pub limits : (wordAt 8 m ≤ 0x100) × (4 ≤ wordAt 16 m) × (wordAt 16 m ≤ 12)
+  pub limits : (wordAt txFlagsIn m ≤ 0x100) × (4 ≤ wordAt sizeIn m) × (wordAt sizeIn m ≤ mostData)
   limits = (omega (arith, tx-is, tx-small), omega (arith, size-is, sized x fine .0), omega (arith, size-is, sized x fine .1))
 
   -- the record of the frame that it was, with RxStatus bit 0
-  pub echo-is : (clock rx size id : ℕ) → T (all isByte m) → rx ≡ wordAt 8 m → size ≡ wordAt 16 m → id ≡ idOf (drop 24 m)
-      → received clock (rx + 1) (idBytes id ++ take (24 + size - 28) (drop 28 m)) ≡ received clock (x .tx + 1) (x .bytes)
+  pub echo-is : (clock rx size id : ℕ) → T (all isByte m) → rx ≡ wordAt txFlagsIn m → size ≡ wordAt sizeIn m → id ≡ idOf (drop dataIn m)
+      → received clock (rx + 1) (idBytes id ++ take (dataIn + size - (dataIn + numberSize)) (drop (dataIn + numberSize) m)) ≡ received clock (x .tx + 1) (x .bytes)
   echo-is clock rx size id u er es ei =
-      let z : List ℕ = zeros (12 - length (x .bytes)) in
-      let d : drop 24 m ≡ x .bytes ++ z = ap (λ (y : List ℕ). drop 24 y) (sym held) ∙ data-at x fine in
-      let k : 24 + size - 28 ≡ length (x .bytes) - 4 = omega (arith, size-is) in
-      let b : idBytes id ++ take (24 + size - 28) (drop 28 m) ≡ x .bytes =
-      ap₂ (λ (n : ℕ) (y : List ℕ). idBytes n ++ y) (ei ∙ ap idOf d) (ap₂ (λ (j : ℕ) (y : List ℕ). take j y) k (sym (drop-drop 4 24 m) ∙ ap (λ (y : List ℕ). drop 4 y) d))
-      ∙ frame-there (x .bytes) z (sized x fine .0) (subst (λ (y : List ℕ). T (all isByte y)) d (all-drop isByte 24 m u)) in
+      let z : List ℕ = zeros (mostData - length (x .bytes)) in
+      let d : drop dataIn m ≡ x .bytes ++ z = ap (λ (y : List ℕ). drop dataIn y) (sym held) ∙ data-at x fine in
+      let k : dataIn + size - (dataIn + numberSize) ≡ length (x .bytes) - 4 = omega (arith, size-is) in
+      let b : idBytes id ++ take (dataIn + size - (dataIn + numberSize)) (drop (dataIn + numberSize) m) ≡ x .bytes =
+      ap₂ (λ (n : ℕ) (y : List ℕ). idBytes n ++ y) (ei ∙ ap idOf d) (ap₂ (λ (j : ℕ) (y : List ℕ). take j y) k (sym (drop-drop numberSize dataIn m) ∙ ap (λ (y : List ℕ). drop 4 y) d))
+      ∙ frame-there (x .bytes) z (sized x fine .0) (subst (λ (y : List ℕ). T (all isByte y)) d (all-drop isByte dataIn m u)) in
       ap₂ (λ (n : ℕ) (y : List ℕ). received clock (n + 1) y) (er ∙ tx-is) b

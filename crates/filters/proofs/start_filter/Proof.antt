@@ -9,8 +9,9 @@ use borrow.Author.Needs.{needs}
 use Rattle.machine.specs.Filter.{free}
 use Rattle.machine.specs.Channel.{filterCode}
 use Rattle.layout.proofs.Region.{openOf}
+use Rattle.filterbank.proofs.Lent.{part-lent, held-is}
 use Rattle.filters.proofs.Steps.{room, checked}
-use Rattle.filters.proofs.OnRegion.{part-lent, held-is, flags-are, not-started, started}
+use Rattle.filters.proofs.OnRegion.{flags-are, not-started, started}
 use Rattle.filters.proofs.start_filter.Statement.{statement}
 use Rattle.filters.proofs.start_filter.Tie as tie
 

@@ -7,7 +7,8 @@ use denote.Ref.{now}
 use borrow.Author.Needs.{needs}
 use borrow.Author.Tests.{not-true, not-false}
 use Rattle.codec.specs.Plain.{within}
-use Rattle.filters.proofs.OnRegion.{place-of, part-lent, no-number, not-held, stopped}
+use Rattle.filterbank.proofs.Lent.{part-lent}
+use Rattle.filters.proofs.OnRegion.{place-of, no-number, not-held, stopped}
 use Rattle.filters.proofs.stop_filter.Statement.{statement}
 use Rattle.filters.proofs.stop_filter.Tie as tie
 

@@ -4,7 +4,7 @@ use Prim.Native.Nat.{ℕ}
 use borrow.Author.Tests.{not-true, not-false}
 use denote.Ref.{now}
 use Rattle.machine.specs.Message.{idBytes}
-use Rattle.filters.proofs.OnRegion.{part-lent}
+use Rattle.filterbank.proofs.Lent.{part-lent}
 use Rattle.frames.proofs.Laws.{not-taken, kept-out, let-in, width-taken, verdict-is}
 use borrow.Author.Needs.{needs}
 use Rattle.frames.proofs.offer.Statement.{statement}

@@ -8,6 +8,7 @@ use borrow.Author.Tests.{not-true, not-false, eq-eqb, ne-eqb, lt-ltb, le-ltb}
 use Rattle.codec.specs.Plain.{within}
 use Rattle.codec.specs.Word.{wordAt}
 use Rattle.codec.proofs.Tests.{below, above, between}
+use Rattle.machine.specs.Limits.{sizeIn, mostData}
 use Rattle.machine.specs.Message.{takes, wideOf, dataOf, idOf, idLimit}
 use Rattle.message.proofs.Laws.{checks, id-of-data}
 use borrow.Author.Needs.{needs}
@@ -19,11 +20,11 @@ use Rattle.message.proofs.message_code.Tie as tie
 can : (c : tie.Else1) → eqb (wordAt 0 (c .before .before .before .args .m .now)) 5 ≡ true
 can c = eq-eqb _ _ (sym (c .before .word-at .ensures .0) ∙ c .if1 .left)
 
-low : (c : tie.Else2) → 4 ≤ wordAt 16 (c .before .before .before .before .before .args .m .now)
+low : (c : tie.Else2) → 4 ≤ wordAt sizeIn (c .before .before .before .before .before .args .m .now)
 low c = omega (arith, c .before .word-at2 .ensures .0)
 
-sized : (c : tie.Else3) → within 4 12 (wordAt 16 (c .before .before .before .before .before .before .args .m .now)) ≡ true
-sized c = between 4 12 _ (low (c .before)) (omega (arith, c .before .before .word-at2 .ensures .0))
+sized : (c : tie.Else3) → within 4 mostData (wordAt sizeIn (c .before .before .before .before .before .before .args .m .now)) ≡ true
+sized c = between 4 mostData _ (low (c .before)) (omega (arith, c .before .before .word-at2 .ensures .0))
 
 taken : (c : tie.After-takes-width) → c .takes-width .result ≡ takes (c .before .before .before .before .before .before .before .before .args .flags) (wideOf (c .before .before .before .before .before .before .before .before .args .m .now))
 taken c = c .takes-width .ensures ∙ ap (takes (c .before .before .before .before .before .before .before .before .args .flags)) (c .before .is-wide .ensures)
@@ -44,12 +45,12 @@ returns c =
 returns-2 : tie.Need-returns-2
 returns-2 c =
     let args = c .before .before .before .before .before .args in
-    checks (args .flags) (args .m .now) (can (c .before .before)) (below 4 12 _ (omega (arith, c .before .word-at2 .ensures .0))) refl refl
+    checks (args .flags) (args .m .now) (can (c .before .before)) (below 4 mostData _ (omega (arith, c .before .word-at2 .ensures .0))) refl refl
 
 returns-3 : tie.Need-returns-3
 returns-3 c =
     let args = c .before .before .before .before .before .before .args in
-    checks (args .flags) (args .m .now) (can (c .before .before .before)) (above 4 12 _ (omega (arith, c .before .before .word-at2 .ensures .0))) refl refl
+    checks (args .flags) (args .m .now) (can (c .before .before .before)) (above 4 mostData _ (omega (arith, c .before .before .word-at2 .ensures .0))) refl refl
 
 returns-4 : tie.Need-returns-4
 returns-4 c =

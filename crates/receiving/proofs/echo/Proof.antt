@@ -3,7 +3,9 @@ use mathlib.Core.List.{List, _++_}
 use Prim.Native.Nat.{ℕ, _+_, _-_, _≤_}
 use native.Mathlib.Omega.{arith}
 use lib.ListN.{take, drop, length-take}
+use Rattle.machine.specs.Limits.{dataIn, mostData}
 use Rattle.machine.specs.Message.{idBytes, received}
+use Rattle.layout.specs.Sizes.{numberSize}
 use Rattle.layout.specs.Record.{rec36}
 use Rattle.receiving.proofs.Laws.{as-record}
 use Rattle.receiving.proofs.Sent.{limits, echo-is}
@@ -11,7 +13,7 @@ use borrow.Author.Needs.{needs}
 use Rattle.receiving.proofs.echo.Statement.{statement}
 use Rattle.receiving.proofs.echo.Tie as tie
 
-sized : (c : tie.After-word-at2) → (4 ≤ c .word-at2 .result) × (c .word-at2 .result ≤ 12)
+sized : (c : tie.After-word-at2) → (4 ≤ c .word-at2 .result) × (c .word-at2 .result ≤ mostData)
 sized c =
     let start = c .before .before .before .before in
     let l = limits (start .args .sent .now) (start .pre .1) in
@@ -32,7 +34,7 @@ part-arrive-end c = omega (arith, sized (c .before .before), c .before .before .
 arrive-requires : tie.Need-arrive-requires
 arrive-requires c κs = let start = c .before .before .before .before .before .before .before in
     let size = c .before .before .before .word-at2 .result in
-    (start .pre .0, omega (arith, length-take (24 + size - 28) (drop 28 (start .args .sent .now)), sized (c .before .before .before)))
+    (start .pre .0, omega (arith, length-take (dataIn + size - (dataIn + numberSize)) (drop (dataIn + numberSize) (start .args .sent .now)), sized (c .before .before .before)))
 
 returns : tie.Need-returns
 returns c =
@@ -43,7 +45,7 @@ returns c =
     let size = c .before .before .before .before .before .before .word-at2 in
     let id = c .before .before .before .before .id-at in
     let came = c .before .before .arrive in
-    as-record (args .r .now) (came .last .0) (received (args .clock) (tx .result + 1) (idBytes (id .result) ++ take (24 + size .result - 28) (drop 28 sent)))
+    as-record (args .r .now) (came .last .0) (received (args .clock) (tx .result + 1) (idBytes (id .result) ++ take (dataIn + size .result - (dataIn + numberSize)) (drop (dataIn + numberSize) sent)))
     (received (args .clock) (rec36 .get sent .tx + 1) (rec36 .get sent .bytes)) (came .ensures)
     (echo-is sent (start .pre .1) (args .clock) (tx .result) (size .result) (id .result) (tx .ensures .1) (tx .ensures .0) (size .ensures .0) (id .ensures))
 
