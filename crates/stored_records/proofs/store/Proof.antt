@@ -1,6 +1,6 @@
--- `stores::store` meets its contract, for any capacity and both directions. The invariant: the records passed are valid. Assumes nothing.
-use Rattle.stores.proofs.Stores.{turn, store-over, store-is, cell-size}
-use Rattle.stores.specs.Held.{cell}
+-- `stored_records::store` meets its contract, for any capacity and both directions. The invariant: the records passed are valid. Assumes nothing.
+use Rattle.stored_records.proofs.Stores.{turn, store-over, store-is, cell-size}
+use Rattle.stored_records.specs.Held.{cell}
 use Rattle.machine.specs.Limits.{recordSize}
 use Rattle.codec.specs.Code.{validAll}
 use lib.ListN.{length, getD, drop}
@@ -10,8 +10,8 @@ use mathlib.Core.List.{List}
 use mathlib.Core.Bool.{Bool, _&&_}
 use mathlib.Core.Path.{_≡_, refl, ap, _∙_}
 use borrow.Author.Needs.{needs}
-use Rattle.stores.proofs.store.Statement.{statement}
-use Rattle.stores.proofs.store.Tie as tie
+use Rattle.stored_records.proofs.store.Statement.{statement}
+use Rattle.stored_records.proofs.store.Tie as tie
 
 abbrev Inv-loop : tie.InvT-loop
 Inv-loop s capacity flags sending n good₀ i₀ good i = (i ≤ n) × (n ≤ capacity) × (n ≡ getD s 0 0) × (good ≡ validAll (cell sending flags) i (drop 1 s))

@@ -13,7 +13,7 @@ use Rattle.codec.specs.Code.{Code, upTo, validAll}
 use Rattle.codec.proofs.Store.{checked-more}
 use Rattle.machine.specs.Limits.{recordSize}
 use Rattle.layout.proofs.Sizes.{out-size, in-size}
-use Rattle.stores.specs.Held.{cell}
+use Rattle.stored_records.specs.Held.{cell}
 
 -- a turn: the value at i, which lies in the k bytes from a on, where the values begin at b
 pub turn : {A : Type 0} (c : Code A) (n : ℕ) → c .size ≡ n → (b i a k : ℕ) (s : List ℕ) (good : Bool) → a ≡ b + i * n → k ≡ n

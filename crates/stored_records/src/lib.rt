@@ -12,8 +12,8 @@ ghost use Rattle.codec.specs.Code.{upTo};
 ghost use Rattle.machine.specs.Limits.{recordSize, dataIn};
 ghost use Rattle.layout.specs.Record.{rec36, widthFits};
 ghost use Rattle.layout.specs.Record.{outgoing as isOutgoing, incoming as isIncoming};
-ghost use Rattle.stores.specs.Held.{fieldsOf};
-ghost use Rattle.stores.specs.Held.{cell as cellOf};
+ghost use Rattle.stored_records.specs.Held.{fieldsOf};
+ghost use Rattle.stored_records.specs.Held.{cell as cellOf};
 
 // The data: an identifier of four bytes and at most eight of a frame, which begin behind it.
 const LEAST_DATA: u32 = places::NUMBER as u32;

@@ -1,5 +1,5 @@
--- `stores::plain_record` meets its contract. Assumes nothing.
-use Rattle.stores.proofs.Records.{rec-small, rec-large, rec-good}
+-- `stored_records::plain_record` meets its contract. Assumes nothing.
+use Rattle.stored_records.proofs.Records.{rec-small, rec-large, rec-good}
 use Rattle.codec.specs.Plain.{allZero}
 use native.Mathlib.Omega.{arith}
 use lib.ListN.{take, drop}
@@ -9,8 +9,8 @@ use mathlib.Core.List.{List}
 use mathlib.Core.Bool.{_&&_}
 use mathlib.Core.Path.{ap, _∙_}
 use borrow.Author.Needs.{needs}
-use Rattle.stores.proofs.plain_record.Statement.{statement}
-use Rattle.stores.proofs.plain_record.Tie as tie
+use Rattle.stored_records.proofs.plain_record.Statement.{statement}
+use Rattle.stored_records.proofs.plain_record.Tie as tie
 
 returns : tie.Need-returns
 returns c = let start = c .before .before .before in

@@ -1,10 +1,10 @@
--- `stores::width_fits` meets its contract. Assumes nothing.
+-- `stored_records::width_fits` meets its contract. Assumes nothing.
 use Rattle.layout.specs.Record.{widthFits}
 use lib.Dec.{leb}
 use mathlib.Core.Bool.{_&&_}
 use borrow.Author.Needs.{needs}
-use Rattle.stores.proofs.width_fits.Statement.{statement}
-use Rattle.stores.proofs.width_fits.Tie as tie
+use Rattle.stored_records.proofs.width_fits.Statement.{statement}
+use Rattle.stored_records.proofs.width_fits.Tie as tie
 
 returns : tie.Need-returns
 unfolding widthFits

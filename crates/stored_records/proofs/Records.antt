@@ -16,8 +16,8 @@ use Rattle.codec.proofs.Word.{word-part, word-drop}
 use Rattle.machine.specs.Limits.{recordSize, mostData, rxStatusIn, txFlagsIn, timestampIn, sizeIn, extraIndexIn, dataIn}
 use Rattle.machine.specs.Message.{idOf, idLimit, takes, bit}
 use Rattle.layout.specs.Record.{row, dataBack, dataFits, body, rec36, widthFits, outgoing, incoming, outCell, inCell}
-use Rattle.stores.specs.Held.{fieldsOf}
-use Rattle.stores.proofs.Parts.{Bytes, less, rest-part, row-valid, row-got, behind-word}
+use Rattle.stored_records.specs.Held.{fieldsOf}
+use Rattle.stored_records.proofs.Parts.{Bytes, less, rest-part, row-valid, row-got, behind-word}
 
 -- ---- the data: size, extra index, twelve bytes
 

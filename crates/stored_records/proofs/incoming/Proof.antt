@@ -1,5 +1,5 @@
--- `stores::incoming` meets its contract. Assumes nothing.
-use Rattle.stores.specs.Held.{fieldsOf}
+-- `stored_records::incoming` meets its contract. Assumes nothing.
+use Rattle.stored_records.specs.Held.{fieldsOf}
 use mathlib.Core.Bool.{or-false}
 use Rattle.layout.specs.Record.{incoming, widthFits}
 use Rattle.machine.specs.Limits.{dataIn}
@@ -12,8 +12,8 @@ use mathlib.Core.List.{[], _∷_}
 use mathlib.Core.Bool.{Bool, _&&_, _||_}
 use mathlib.Core.Path.{sym, ap, _∙_}
 use borrow.Author.Needs.{needs}
-use Rattle.stores.proofs.incoming.Statement.{statement}
-use Rattle.stores.proofs.incoming.Tie as tie
+use Rattle.stored_records.proofs.incoming.Statement.{statement}
+use Rattle.stored_records.proofs.incoming.Tie as tie
 
 returns : tie.Need-returns
 unfolding incoming fieldsOf member bit

@@ -1,14 +1,14 @@
--- `stores::cell` meets its contract, for sending and for reading. Assumes nothing.
-use Rattle.stores.proofs.Records.{out-flat, in-flat}
-use Rattle.stores.specs.Held.{cell}
+-- `stored_records::cell` meets its contract, for sending and for reading. Assumes nothing.
+use Rattle.stored_records.proofs.Records.{out-flat, in-flat}
+use Rattle.stored_records.specs.Held.{cell}
 use Rattle.codec.proofs.Lists.{bytes-of}
 use Prim.Native.Nat.{ℕ}
 use mathlib.Core.List.{List}
 use mathlib.Core.Bool.{Bool, _&&_}
 use mathlib.Core.Path.{ap, ap₂, _∙_, sym}
 use borrow.Author.Needs.{needs}
-use Rattle.stores.proofs.cell.Statement.{statement}
-use Rattle.stores.proofs.cell.Tie as tie
+use Rattle.stored_records.proofs.cell.Statement.{statement}
+use Rattle.stored_records.proofs.cell.Tie as tie
 
 returns : tie.Need-returns
 unfolding cell
