@@ -1,7 +1,8 @@
 -- `periodics::start_periodic` meets its contract. Assumes nothing.
 use mathlib.Core.Path.{sym, _∙_}
 use native.Mathlib.Omega.{arith}
-use Rattle.periodics.proofs.Region.{lent, code-is, number-is, passed, start-refused, start-full, start-done}
+use Rattle.stores.proofs.Periodics.{lent}
+use Rattle.periodics.proofs.Region.{code-is, number-is, passed, start-refused, start-full, start-done}
 use borrow.Author.Needs.{needs}
 use Rattle.periodics.proofs.start_periodic.Statement.{statement}
 use Rattle.periodics.proofs.start_periodic.Tie as tie

@@ -2,7 +2,8 @@
 use mathlib.Core.Path.{sym, _∙_}
 use Prim.Native.Nat.{_-_}
 use native.Mathlib.Omega.{arith}
-use Rattle.periodics.proofs.Region.{lent, stop-zero, stop-high, stop-empty, stop-taken}
+use Rattle.stores.proofs.Periodics.{lent}
+use Rattle.periodics.proofs.Region.{stop-zero, stop-high, stop-empty, stop-taken}
 use borrow.Author.Needs.{needs}
 use Rattle.periodics.proofs.stop_periodic.Statement.{statement}
 use Rattle.periodics.proofs.stop_periodic.Tie as tie

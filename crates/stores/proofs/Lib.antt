@@ -1,0 +1,3 @@
+pub mod Periodics
+pub mod Written
+pub mod Flight

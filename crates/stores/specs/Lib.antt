@@ -1,0 +1,2 @@
+pub mod Periodics
+pub mod Written
