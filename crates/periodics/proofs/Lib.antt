@@ -1,4 +1,1 @@
-pub mod Next
-pub mod Held
-pub mod Moves
 pub mod Region

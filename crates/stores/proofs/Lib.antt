@@ -1,3 +1,3 @@
-pub mod Parts
-pub mod Records
-pub mod Stores
+pub mod Periodics
+pub mod Written
+pub mod Flight

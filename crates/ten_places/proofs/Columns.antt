@@ -21,7 +21,7 @@ use Rattle.codec.proofs.Word.{word-part}
 use Rattle.machine.specs.Limits.{mostData}
 use Rattle.layout.specs.Sizes.{numberSize}
 use Rattle.layout.specs.Record.{row}
-use Rattle.stores.proofs.Parts.{Bytes, part-within, at-part, row-valid, row-got, byte-valid, word-valid, mark-is, mark-got}
+use Rattle.stored_records.proofs.Parts.{Bytes, part-within, at-part, row-valid, row-got, byte-valid, word-valid, mark-is, mark-got}
 
 -- ---- a test of each number below n
 

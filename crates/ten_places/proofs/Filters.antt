@@ -19,7 +19,7 @@ use Rattle.layout.specs.Record.{row}
 use Rattle.layout.specs.Memory.{filterParts, filterBack, filterFits, filterColumns, filters}
 use Rattle.layout.proofs.Memory.{row-lawful}
 use Rattle.ten_places.specs.Place.{filterAt, filterGood}
-use Rattle.stores.proofs.Parts.{Bytes}
+use Rattle.stored_records.proofs.Parts.{Bytes}
 use Rattle.ten_places.proofs.Columns.{many-rows, beside-rows, each-rows, below-same, byte-row, byte-row-got, mark-row, mark-row-got, row-row, row-row-got}
 
 -- ---- ten filters, filter by filter

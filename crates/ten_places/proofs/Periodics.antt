@@ -21,8 +21,8 @@ use Rattle.layout.specs.Record.{row, body, rec36, outCell}
 use Rattle.layout.specs.Memory.{periodicParts, periodicBack, timerFits, periodicFits, periodicColumns, periodics}
 use Rattle.layout.proofs.Memory.{out-lawful, out-shows}
 use Rattle.ten_places.specs.Place.{recordAt, periodicAt, periodicGood}
-use Rattle.stores.proofs.Parts.{Bytes, at-rest}
-use Rattle.stores.proofs.Records.{out-none}
+use Rattle.stored_records.proofs.Parts.{Bytes, at-rest}
+use Rattle.stored_records.proofs.Records.{out-none}
 use Rattle.ten_places.proofs.Columns.{cellAt, cell-there, many-rows, beside-rows, each-rows, below-same, mark-row, mark-row-got, word-row, word-row-got}
 
 record-there : (flags i : ℕ) (m x : List ℕ) → x ≡ drop messagesIn m → cellAt (vacant (outCell flags)) x i ≡ recordAt i m

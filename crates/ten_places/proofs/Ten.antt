@@ -15,7 +15,7 @@ use Rattle.layout.specs.Record.{row, body, rec36, outCell}
 use Rattle.layout.specs.Memory.{filterFits, filterColumns, filters, periodicFits, periodicColumns, periodics}
 use Rattle.layout.proofs.Memory.{filters-lawful, periodics-lawful}
 use Rattle.ten_places.specs.Place.{placesSize, placesValid, placeGood}
-use Rattle.stores.proofs.Parts.{Bytes, zeros-good}
+use Rattle.stored_records.proofs.Parts.{Bytes, zeros-good}
 use Rattle.ten_places.proofs.Filters.{filters-flat}
 use Rattle.ten_places.proofs.Periodics.{periodics-flat}
 

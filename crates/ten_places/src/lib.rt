@@ -1,7 +1,7 @@
 // Are these ten filters, or ten periodics? Place by place, from their columns.
 use can::takes_width;
 use integers::word_at;
-use stores::cell;
+use stored_records::cell;
 use zeros::no_record;
 use zeros::nothing;
 use zeros::twelve_end;

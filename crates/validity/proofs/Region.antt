@@ -19,9 +19,9 @@ use Rattle.layout.specs.Sizes.{numberSize, configSize, filtersSize, periodicsSi
 use Rattle.layout.specs.Record.{outCell, inCell}
 use Rattle.layout.specs.Memory.{configFits, config, filters, periodics, sendingPart, receivingPart, rest, openPart, region, memory, valid}
 use Rattle.layout.proofs.Sizes.{filters-size, periodics-size, written-size, queue-size, sending-size, config-size, memory-size}
-use Rattle.stores.specs.Held.{cell}
+use Rattle.stored_records.specs.Held.{cell}
 use Rattle.ten_places.specs.Place.{placesValid}
-use Rattle.stores.proofs.Parts.{Bytes, less, rest-part, behind-word, both-is, mark-is, at-rest}
+use Rattle.stored_records.proofs.Parts.{Bytes, less, rest-part, behind-word, both-is, mark-is, at-rest}
 
 -- ---- the configuration
 

@@ -3,7 +3,7 @@ use can::is_flags;
 use can::is_known_rate;
 use integers::word_at;
 use octets::all_zero;
-use stores::store;
+use stored_records::store;
 ghost use mathlib.Core.Path.{_≡_};
 ghost use lib.ListN.{length, drop};
 ghost use Rattle.layout.specs.Sizes.{configSize, sendingSize, receivingSize, flagsAt, regionSize};

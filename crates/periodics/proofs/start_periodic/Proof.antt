@@ -1,7 +1,8 @@
 -- `periodics::start_periodic` meets its contract. Assumes nothing.
 use mathlib.Core.Path.{sym, _∙_}
 use native.Mathlib.Omega.{arith}
-use Rattle.periodics.proofs.Region.{lent, code-is, number-is, passed, start-refused, start-full, start-done}
+use Rattle.stores.proofs.Periodics.{lent}
+use Rattle.periodics.proofs.Region.{code-is, number-is, passed, start-refused, start-full, start-done}
 use borrow.Author.Needs.{needs}
 use Rattle.periodics.proofs.start_periodic.Statement.{statement}
 use Rattle.periodics.proofs.start_periodic.Tie as tie
@@ -13,8 +14,8 @@ returns : tie.Need-returns
 returns c =
     let start = c .before .before .before .before .before .before in
     let r = start .args .r .now in
-    λ t.
-    start-refused r (start .pre) (start .args .message .now) (start .args .interval) t _
+    λ rates t.
+    start-refused r (start .pre) (start .args .message .now) (start .args .interval) rates t _
     (code-is r (start .pre) (start .args .message .now) (start .args .interval) _ _ (c .before .before .word-at .ensures .0) (c .before .start-code .ensures)) (c .if1 .taken)
 
 first-free-requires : tie.Need-first-free-requires
@@ -25,8 +26,8 @@ returns-2 c =
     let start = c .before .before .before .before .before .before .before .before .before .before in
     let r = start .args .r .now in
     let code = code-is r (start .pre) (start .args .message .now) (start .args .interval) _ _ (c .before .before .before .before .before .before .word-at .ensures .0) (c .before .before .before .before .before .start-code .ensures) in
-    λ t.
-    start-full r (start .pre) (start .args .message .now) (start .args .interval) t (sym (c .before .before .before .before .if1 .left) ∙ code) _ (number-is r (start .pre) _ (c .before .first-free .ensures)) (c .if2 .taken)
+    λ rates t.
+    start-full r (start .pre) (start .args .message .now) (start .args .interval) rates t (sym (c .before .before .before .before .if1 .left) ∙ code) _ (number-is r (start .pre) _ (c .before .first-free .ensures)) (c .if2 .taken)
 
 start-at-requires : tie.Need-start-at-requires
 start-at-requires c κs =
@@ -41,8 +42,8 @@ returns-3 c =
     let start = c .before .before .before .before .before .before .before .before .before .before .before .before .before .before in
     let r = start .args .r .now in
     let code = code-is r (start .pre) (start .args .message .now) (start .args .interval) _ _ (c .before .before .before .before .before .before .before .before .before .before .word-at .ensures .0) (c .before .before .before .before .before .before .before .before .before .start-code .ensures) in
-    λ t.
-    start-done r (start .pre) (start .args .message .now) (start .args .interval) t (sym (c .before .before .before .before .before .before .before .before .if1 .left) ∙ code) _ (number-is r (start .pre) _ (c .before .before .before .before .before .first-free .ensures)) (c .before .before .before .before .if2 .left) (c .before .before .start-at .last .0) (c .before .before .start-at .ensures)
+    λ rates t.
+    start-done r (start .pre) (start .args .message .now) (start .args .interval) rates t (sym (c .before .before .before .before .before .before .before .before .if1 .left) ∙ code) _ (number-is r (start .pre) _ (c .before .before .before .before .before .first-free .ensures)) (c .before .before .before .before .if2 .left) (c .before .before .start-at .last .0) (c .before .before .start-at .ensures)
 
 pub start-periodic-spec : {M : Type 1} → statement M
 start-periodic-spec =

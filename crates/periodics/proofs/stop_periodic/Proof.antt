@@ -2,16 +2,17 @@
 use mathlib.Core.Path.{sym, _∙_}
 use Prim.Native.Nat.{_-_}
 use native.Mathlib.Omega.{arith}
-use Rattle.periodics.proofs.Region.{lent, stop-zero, stop-high, stop-empty, stop-taken}
+use Rattle.stores.proofs.Periodics.{lent}
+use Rattle.periodics.proofs.Region.{stop-zero, stop-high, stop-empty, stop-taken}
 use borrow.Author.Needs.{needs}
 use Rattle.periodics.proofs.stop_periodic.Statement.{statement}
 use Rattle.periodics.proofs.stop_periodic.Tie as tie
 
 returns : tie.Need-returns
-returns c = λ t. stop-zero (c .before .before .args .r .now) (c .before .before .pre) (c .before .before .args .number) t (c .if1 .taken)
+returns c = λ rates t. stop-zero (c .before .before .args .r .now) (c .before .before .pre) (c .before .before .args .number) rates t (c .if1 .taken)
 
 returns-2 : tie.Need-returns-2
-returns-2 c = λ t. stop-high (c .before .before .before .args .r .now) (c .before .before .before .pre) (c .before .before .before .args .number) t (c .if2 .taken)
+returns-2 c = λ rates t. stop-high (c .before .before .before .args .r .now) (c .before .before .before .pre) (c .before .before .before .args .number) rates t (c .if2 .taken)
 
 word-at-requires : tie.Need-word-at-requires
 word-at-requires c κs = let start = c .before .before .before .before .before in omega (arith, lent (start .args .r .now) (start .pre) .long, c .before .before .if2 .left, c .before .before .before .if1 .left)
@@ -22,7 +23,7 @@ returns-3 c =
     let low = c .before .before .before .before .before .if1 .left in
     let high = c .before .before .before .before .if2 .left in
     let n = start .args .number in
-    λ t. stop-empty (start .args .r .now) (start .pre) n t (n - 1) (omega arith) (omega arith) (sym (c .before .word-at .ensures .0) ∙ c .if3 .taken)
+    λ rates t. stop-empty (start .args .r .now) (start .pre) n rates t (n - 1) (omega arith) (omega arith) (sym (c .before .word-at .ensures .0) ∙ c .if3 .taken)
 
 stop-at-requires : tie.Need-stop-at-requires
 stop-at-requires c κs = let start = c .before .before .before .before .before .before .before .before in (lent (start .args .r .now) (start .pre), omega (arith, c .before .before .before .before .before .if2 .left, c .before .before .before .before .before .before .if1 .left))
@@ -33,7 +34,7 @@ returns-4 c =
     let low = c .before .before .before .before .before .before .before .before .before .if1 .left in
     let high = c .before .before .before .before .before .before .before .before .if2 .left in
     let n = start .args .number in
-    λ t. stop-taken (start .args .r .now) (start .pre) n t (n - 1) (omega arith) (omega arith) (λ z. c .before .before .before .before .if3 .left (c .before .before .before .before .before .word-at .ensures .0 ∙ z)) (c .before .before .stop-at .last .0) (c .before .before .stop-at .ensures)
+    λ rates t. stop-taken (start .args .r .now) (start .pre) n rates t (n - 1) (omega arith) (omega arith) (λ z. c .before .before .before .before .if3 .left (c .before .before .before .before .before .word-at .ensures .0 ∙ z)) (c .before .before .stop-at .last .0) (c .before .before .stop-at .ensures)
 
 pub stop-periodic-spec : {M : Type 1} → statement M
 stop-periodic-spec =

@@ -6,23 +6,23 @@ use Rattle.settings.proofs.clear_in.Tie as tie
 
 returns : tie.Need-returns
 returns c =
-    λ t. clear-written (now (c .before .before .before .before .before .before .args .r)) (c .before .before .before .before .before .before .pre) t _ _ (c .before .before .before .before .if1 .taken) (c .before .before .zero .ensures)
+    λ rates t. clear-written (now (c .before .before .before .before .before .before .args .r)) (c .before .before .before .before .before .before .pre) rates t _ (c .before .before .before .before .if1 .taken) _ (c .before .before .zero .ensures)
 
 returns-2 : tie.Need-returns-2
 returns-2 c =
-    λ t. clear-queue (now (c .before .before .before .before .before .before .before .args .r)) (c .before .before .before .before .before .before .before .pre) t _ _ (c .before .before .before .before .if2 .taken) (c .before .before .zero2 .ensures)
+    λ rates t. clear-queue (now (c .before .before .before .before .before .before .before .args .r)) (c .before .before .before .before .before .before .before .pre) rates t _ (c .before .before .before .before .if2 .taken) _ (c .before .before .zero2 .ensures)
 
 returns-3 : tie.Need-returns-3
 returns-3 c =
-    λ t. clear-periodics (now (c .before .before .before .before .before .before .before .before .args .r)) (c .before .before .before .before .before .before .before .before .pre) t _ _ (c .before .before .before .before .if3 .taken) (c .before .before .zero3 .ensures)
+    λ rates t. clear-periodics (now (c .before .before .before .before .before .before .before .before .args .r)) (c .before .before .before .before .before .before .before .before .pre) rates t _ (c .before .before .before .before .if3 .taken) _ (c .before .before .zero3 .ensures)
 
 returns-4 : tie.Need-returns-4
 returns-4 c =
-    λ t. clear-filters (now (c .before .before .before .before .before .before .before .before .before .args .r)) (c .before .before .before .before .before .before .before .before .before .pre) t _ _ (c .before .before .before .before .if4 .taken) (c .before .before .zero4 .ensures)
+    λ rates t. clear-filters (now (c .before .before .before .before .before .before .before .before .before .args .r)) (c .before .before .before .before .before .before .before .before .before .pre) rates t _ (c .before .before .before .before .if4 .taken) _ (c .before .before .zero4 .ensures)
 
 returns-5 : tie.Need-returns-5
 returns-5 c =
-    λ t. clear-unknown (now (c .before .before .before .before .before .args .r)) (c .before .before .before .before .before .pre) t _ (now (c .before .before .before .before .before .args .r)) (c .before .before .before .if1 .left) (c .before .before .if2 .left) (c .before .if3 .left) (c .if4 .left)
+    λ rates t. clear-unknown (now (c .before .before .before .before .before .args .r)) (c .before .before .before .before .before .pre) rates t _ (c .before .before .before .if1 .left) (c .before .before .if2 .left) (c .before .if3 .left) (c .if4 .left)
 
 pub clear-in-spec : {M : Type 1} → statement M
 clear-in-spec =

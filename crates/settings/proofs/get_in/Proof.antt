@@ -8,15 +8,15 @@ use Rattle.settings.proofs.get_in.Tie as tie
 
 returns : tie.Need-returns
 returns c =
-    λ t. get-rate (now (c .before .before .before .args .r)) (c .before .before .before .pre) t _ _ (c .before .if1 .taken) (c .word-at .ensures .0 ∙ word-of (rate-part (now (c .before .before .before .args .r)) (c .before .before .before .pre)))
+    λ rates t. get-rate (now (c .before .before .before .args .r)) (c .before .before .before .pre) rates t _ _ (c .before .if1 .taken) (c .word-at .ensures .0 ∙ word-of (rate-part (now (c .before .before .before .args .r)) (c .before .before .before .pre)))
 
 returns-2 : tie.Need-returns-2
 returns-2 c =
-    λ t. get-loopback (now (c .before .before .before .before .before .args .r)) (c .before .before .before .before .before .pre) t _ _ (c .before .before .if2 .taken) (c .wide .ensures .0)
+    λ rates t. get-loopback (now (c .before .before .before .before .before .args .r)) (c .before .before .before .before .before .pre) rates t _ _ (c .before .before .if2 .taken) (c .wide .ensures .0)
 
 returns-3 : tie.Need-returns-3
 returns-3 c =
-    λ t. get-unknown (now (c .before .before .before .args .r)) (c .before .before .before .pre) t _ (c .before .if1 .left) (c .if2 .left)
+    λ rates t. get-unknown (now (c .before .before .before .args .r)) (c .before .before .before .pre) rates t _ (c .before .if1 .left) (c .if2 .left)
 
 pub get-in-spec : {M : Type 1} → statement M
 get-in-spec =

@@ -8,23 +8,23 @@ use Rattle.settings.proofs.set_in.Tie as tie
 
 returns : tie.Need-returns
 returns c =
-    λ t. set-rate-bad (now (c .before .before .before .before .args .r)) (c .before .before .before .before .pre) t _ _ (c .before .before .if1 .taken) (sym (c .before .is-rate .ensures) ∙ not-true _ (c .if2 .taken))
+    λ t. set-rate-bad (now (c .before .before .before .before .before .args .r)) (c .before .before .before .before .before .pre) (now (c .before .before .before .before .before .args .rates)) t _ _ (c .before .before .if1 .taken) (sym (c .before .is-rate .ensures) ∙ not-true _ (c .if2 .taken))
 
 returns-2 : tie.Need-returns-2
 returns-2 c =
-    λ t. set-rate (now (c .before .before .before .before .before .before .before .before .args .r)) (c .before .before .before .before .before .before .before .before .pre) t _ _ _ (c .before .before .before .before .before .before .if1 .taken) (sym (c .before .before .before .before .before .is-rate .ensures) ∙ not-false _ (c .before .before .before .before .if2 .left)) (c .before .before .put-word .ensures)
+    λ t. set-rate (now (c .before .before .before .before .before .before .before .before .before .args .r)) (c .before .before .before .before .before .before .before .before .before .pre) (now (c .before .before .before .before .before .before .before .before .before .args .rates)) t _ _ _ (c .before .before .before .before .before .before .if1 .taken) (sym (c .before .before .before .before .before .is-rate .ensures) ∙ not-false _ (c .before .before .before .before .if2 .left)) (c .before .before .put-word .ensures)
 
 returns-3 : tie.Need-returns-3
 returns-3 c =
-    λ t. set-mark-bad (now (c .before .before .before .before .args .r)) (c .before .before .before .before .pre) t _ _ (c .before .if3 .taken) (c .if4 .taken)
+    λ t. set-mark-bad (now (c .before .before .before .before .before .args .r)) (c .before .before .before .before .before .pre) (now (c .before .before .before .before .before .args .rates)) t _ _ (c .before .if3 .taken) (c .if4 .taken)
 
 returns-4 : tie.Need-returns-4
 returns-4 c =
-    λ t. set-mark (now (c .before .before .before .before .args .r)) (c .before .before .before .before .pre) t _ _ (c .before .if3 .taken) (c .if4 .left)
+    λ t. set-mark (now (c .before .before .before .before .before .args .r)) (c .before .before .before .before .before .pre) (now (c .before .before .before .before .before .args .rates)) t _ _ (c .before .if3 .taken) (c .if4 .left)
 
 returns-5 : tie.Need-returns-5
 returns-5 c =
-    λ t. set-unknown (now (c .before .before .before .args .r)) (c .before .before .before .pre) t _ _ (c .before .if1 .left) (c .if3 .left)
+    λ t. set-unknown (now (c .before .before .before .before .args .r)) (c .before .before .before .before .pre) (now (c .before .before .before .before .args .rates)) t _ _ (c .before .if1 .left) (c .if3 .left)
 
 pub set-in-spec : {M : Type 1} → statement M
 set-in-spec =

@@ -1,6 +1,6 @@
 -- `ten_places::periodic` meets its contract: an empty place, a periodic. Assumes nothing.
 use Rattle.ten_places.proofs.Periodics.{periodic-empty, periodic-taken}
-use Rattle.stores.specs.Held.{cell}
+use Rattle.stored_records.specs.Held.{cell}
 use Rattle.ten_places.specs.Place.{recordAt}
 use Rattle.machine.specs.Limits.{recordSize, leastInterval, mostInterval}
 use Rattle.layout.specs.Sizes.{pendingIn, messagesIn}

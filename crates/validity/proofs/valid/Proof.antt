@@ -1,7 +1,7 @@
 -- `validity::valid` meets its contract. The invariant: the regions passed are valid. Assumes nothing.
 use Rattle.validity.proofs.Region.{not-long, valid-is}
 use Rattle.layout.proofs.Sizes.{region-size}
-use Rattle.stores.proofs.Stores.{turn}
+use Rattle.stored_records.proofs.Stores.{turn}
 use Rattle.layout.specs.Memory.{region}
 use Rattle.layout.specs.Sizes.{numberSize, regionSize, regionAt}
 use Rattle.machine.specs.Limits.{lines}

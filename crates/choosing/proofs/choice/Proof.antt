@@ -1,0 +1,27 @@
+-- `choosing::choice` meets its contract. Assumes nothing.
+use Rattle.choosing.proofs.Next.{pending-shown, pending-long, oldest-shown, oldest-long}
+use borrow.Author.Needs.{needs}
+use Rattle.choosing.proofs.choice.Statement.{statement}
+use Rattle.choosing.proofs.choice.Tie as tie
+
+returns : tie.Need-returns
+returns c = let q = c .before .before .pre in (pending-shown q (c .before .if1 .taken), pending-long q (c .before .if1 .taken))
+
+returns-2 : tie.Need-returns-2
+returns-2 c = let q = c .before .before .pre in (oldest-shown q (c .before .if1 .left), oldest-long q)
+
+pub choice-spec : {M : Type 1} → statement M
+choice-spec =
+    tie.close
+    (tie.spec
+    (λ c. search needs)
+    (λ c. search needs)
+    (λ c. search needs)
+    (λ c. search needs)
+    (λ c. search needs)
+    (λ c. search needs)
+    returns
+    (λ c. search needs)
+    (λ c. search needs)
+    (λ c. search needs)
+    returns-2)

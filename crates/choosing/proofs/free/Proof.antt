@@ -1,0 +1,35 @@
+-- `choosing::free` meets its contract. Assumes nothing.
+use Rattle.stores.proofs.Periodics.{lent}
+use Rattle.choosing.proofs.Freed.{oldest-lent, periodic-freed, written-freed}
+use borrow.Author.Needs.{needs}
+use Rattle.choosing.proofs.free.Statement.{statement}
+use Rattle.choosing.proofs.free.Tie as tie
+
+calm-requires : tie.Need-calm-requires
+calm-requires c κs = let start = c .before .before .before in (lent (start .args .r .now) (start .pre .0), c .before .if1 .taken)
+
+returns : tie.Need-returns
+returns c = let small = c .before .before .before .before in periodic-freed (small .before .before .pre .0) (small .if1 .taken) (c .before .before .calm .ensures)
+
+drop-oldest-requires : tie.Need-drop-oldest-requires
+drop-oldest-requires c κs = let start = c .before .before .before in oldest-lent (start .pre .0) (start .pre .1 (c .before .if1 .left))
+
+returns-2 : tie.Need-returns-2
+returns-2 c = let large = c .before .before .before .before in written-freed (large .before .before .pre .0) (large .if1 .left) (c .before .before .drop-oldest .ensures)
+
+pub free-spec : {M : Type 1} → statement M
+free-spec =
+    tie.close
+    (tie.spec
+    (λ c. search needs)
+    (λ c. search needs)
+    (λ c. search needs)
+    calm-requires
+    (λ c. search needs)
+    returns
+    (λ c. search needs)
+    (λ c. search needs)
+    (λ c. search needs)
+    drop-oldest-requires
+    (λ c. search needs)
+    returns-2)

@@ -1,0 +1,51 @@
+// THE CHOICE of what a channel sends next: a pending periodic before a written record; and the channel that is without it.
+ghost use mathlib.Core.Path.{_≡_};
+ghost use Prim.Native.Nat.{ℕ, _≤_, _<_};
+ghost use lib.Dec.{T};
+ghost use lib.ListN.{length, getD, drop};
+ghost use Rattle.machine.specs.Limits.{mostPlaces, mostWritten, recordSize};
+ghost use Rattle.machine.specs.Channel.{next};
+ghost use Rattle.layout.specs.Sizes.{writtenAt, writtenSize};
+ghost use Rattle.layout.specs.Memory.{periodics, region};
+ghost use Rattle.layout.specs.Promise.{Opened};
+ghost use Rattle.stores.specs.Written.{written};
+ghost use Rattle.choosing.specs.Choice.{nextShown, Choosing, freed};
+
+// Where the oldest record of a written store ends.
+const OLDEST_END: usize = 1 + places::RECORD;
+
+// The 36 bytes of the first pending periodic, of place i, else those of the oldest written record.
+pub fn choice<'a>(waiting: &'a [u8], store: &'a [u8], i: usize) -> &'a [u8]
+    requires { ⌜ Choosing (now waiting) (now store) i ⌝ }
+    ensures { λ b. ⌜ ((flags : ℕ) → now b ≡ nextShown (next (periodics flags .get (now (waiting .entry))) (written flags .get (now (store .entry))))) × (length (now b) ≡ recordSize) ⌝ }
+{
+    if i < places::PLACES {
+        let at = places::MESSAGES_IN + i * places::RECORD;
+        let end = at + places::RECORD;
+        return &waiting[at..end];
+    }
+    &store[1..OLDEST_END]
+}
+
+// The oldest record of a written store goes: the others move to the front, zeros behind them.
+fn drop_oldest(store: &mut [u8])
+    requires { ⌜ (length (now store) ≡ writtenSize) × (0 < getD (now store) 0 0) × (getD (now store) 0 0 ≤ mostWritten) ⌝ }
+    ensures { λ u. ⌜ ((flags : ℕ) → T (written flags .valid (now (store .entry))) → now (store .exit) ≡ written flags .put (drop 1 (written flags .get (now (store .entry))))) ⌝ }
+{
+    let held = store[0];
+    let end = 1 + places::RECORD * held as usize;
+    octets::move_down(&mut store[1..end], places::RECORD);
+    store[0] = held - 1;
+}
+
+// What went in flight is no longer pending, where it was the periodic of place i, else no longer held.
+pub fn free(r: &mut [u8], i: usize)
+    requires { ⌜ Opened (now r) × (mostPlaces ≤ i → 0 < getD (now r) writtenAt 0) ⌝ }
+    ensures { λ u. ⌜ now (r .exit) ≡ region .put (freed i (region .get (now (r .entry)))) ⌝ }
+{
+    if i < places::PLACES {
+        pending::calm(&mut r[places::PERIODICS..places::WRITTEN], i);
+        return;
+    }
+    drop_oldest(&mut r[places::WRITTEN..places::FLIGHT]);
+}

@@ -1,5 +1,0 @@
-pub mod Writing
-pub mod Next
-pub mod Flight
-pub mod Taking
-pub mod Landing
