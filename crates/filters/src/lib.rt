@@ -4,68 +4,24 @@ ghost use mathlib.Core.List.{List, []};
 ghost use mathlib.Core.Option.{some};
 ghost use Prim.Native.Nat.{ℕ, _<_};
 ghost use lib.ListN.{set};
-ghost use Rattle.codec.specs.Plain.{within};
 ghost use Rattle.machine.specs.Limits.{mostPlaces};
-ghost use Rattle.machine.specs.Filter.{free};
-ghost use Rattle.machine.specs.Channel.{Open, filterCode, filterOf, startFilter, stopFilter};
+ghost use Rattle.machine.specs.Channel.{filterOf, startFilter, stopFilter};
 ghost use Rattle.layout.specs.Memory.{filters};
 ghost use Rattle.layout.specs.Promise.{Opened, gives, callOutcome};
 ghost use Rattle.filterbank.specs.Part.{FilterPart};
-ghost use Rattle.filters.specs.Checked.{Checked};
+ghost use Rattle.filtercheck.specs.Checked.{Checked};
 use codes::Answer;
 use places::DATA_IN;
 use places::FILTERS;
 use places::FLAGS;
 use places::PERIODICS;
 use places::PLACES;
-use places::RECORD;
 use places::ROW;
 use places::SIZE_IN;
 use places::TX_FLAGS_IN;
 
-// The most data bytes that a filter compares, and the largest number of a filter.
-const MOST_SIZE: u32 = ROW as u32;
-
+// The largest number of a filter.
 const MOST_NUMBER: u32 = PLACES as u32;
-
-// Is a number one of those from one to another?
-fn between(from: u32, to: u32, n: u32) -> bool
-    ensures { λ r. ⌜ r ≡ within from to n ⌝ }
-{
-    (from <= n) & (n <= to)
-}
-
-// The code of a start, where `place` is the first empty place: the checks in their order.
-fn start_code(flags: u32, kind: u32, mask: &[u8], pattern: &[u8], place: usize) -> u32
-    ensures { λ r. ⌜ ((o : Open) → o .config .flags ≡ flags → free (o .filters) ≡ place → r ≡ filterCode o kind (now (mask .entry)) (now (pattern .entry))) ⌝ }
-{
-    if mask.len() < RECORD {
-        return codes::ERR_NULL_PARAMETER;
-    }
-    if pattern.len() < RECORD {
-        return codes::ERR_NULL_PARAMETER;
-    }
-    if !between(1, 2, kind) {
-        return codes::ERR_INVALID_FILTER_ID;
-    }
-    if (integers::word_at(mask, 0) != can::PROTOCOL)
-        | (integers::word_at(pattern, 0) != can::PROTOCOL)
-    {
-        return codes::ERR_MSG_PROTOCOL_ID;
-    }
-    let size = integers::word_at(mask, SIZE_IN);
-    let tx = integers::word_at(mask, TX_FLAGS_IN);
-    let same = (size == integers::word_at(pattern, SIZE_IN))
-        & (tx == integers::word_at(pattern, TX_FLAGS_IN));
-    let fits = between(1, MOST_SIZE, size) & can::takes_width(flags, tx / 0x100 % 2 == 1);
-    if !(same & fits) {
-        return codes::ERR_INVALID_MSG;
-    }
-    if place >= PLACES {
-        return codes::ERR_EXCEEDED_LIMIT;
-    }
-    codes::STATUS_NOERROR
-}
 
 // A filter made of two records that passed the checks, at a place.
 fn put_filter(part: &mut [u8], i: usize, kind: u32, mask: &[u8], pattern: &[u8])
@@ -93,7 +49,7 @@ pub fn start_filter(r: &mut [u8], kind: u32, mask: &[u8], pattern: &[u8]) -> Ans
     ensures { λ a. ⌜ ((rates : List ℕ) (t : ℕ) → gives (a .code) (a .value) [] (now (r .exit)) ≡ callOutcome rates t (now (r .entry)) (startFilter kind (now (mask .entry)) (now (pattern .entry)))) ⌝ }
 {
     let place = filterbank::first_free(&r[FILTERS..PERIODICS]);
-    let code = start_code(integers::word_at(r, FLAGS), kind, mask, pattern, place);
+    let code = filtercheck::start_code(integers::word_at(r, FLAGS), kind, mask, pattern, place);
     if code != codes::STATUS_NOERROR {
         return Answer {
             code: code,
@@ -112,7 +68,7 @@ pub fn stop_filter(r: &mut [u8], number: u32) -> u32
     requires { ⌜ Opened (now r) ⌝ }
     ensures { λ code. ⌜ ((rates : List ℕ) (t : ℕ) → gives code 0 [] (now (r .exit)) ≡ callOutcome rates t (now (r .entry)) (stopFilter number)) ⌝ }
 {
-    if !between(1, MOST_NUMBER, number) {
+    if !filtercheck::between(1, MOST_NUMBER, number) {
         return codes::ERR_INVALID_FILTER_ID;
     }
     let i = number as usize - 1;

@@ -20,6 +20,29 @@ use Rattle.queue.specs.Queue.{withoutOldest}
 use Rattle.queue.proofs.Bytes.{oldest-out}
 use Rattle.queue.proofs.Laws.{part, fine, held, lost, without}
 
+-- ---- the code, test by test
+
+module _ (lost n m : ℕ) where
+  pub reported : 1 ≡ lost → 0x12 ≡ readCode (eqb 1 lost) n m
+  unfolding readCode
+  reported l = rw (eq-eqb 1 lost l)
+
+  pub full : (1 ≡ lost → ⊥) → m ≡ n → 0x00 ≡ readCode (eqb 1 lost) n m
+  unfolding readCode
+  full l e = rw (ne-eqb 1 lost l) (rw (eq-eqb m n e))
+
+  pub empty : (1 ≡ lost → ⊥) → (m ≡ n → ⊥) → m ≡ 0 → 0x10 ≡ readCode (eqb 1 lost) n m
+  unfolding readCode
+  empty l e z = rw (ne-eqb 1 lost l) (rw (ne-eqb m n e) (rw (eq-eqb m 0 z)))
+
+  pub between : (1 ≡ lost → ⊥) → (m ≡ n → ⊥) → (m ≡ 0 → ⊥) → 0x09 ≡ readCode (eqb 1 lost) n m
+  unfolding readCode
+  between l e z = rw (ne-eqb 1 lost l) (rw (ne-eqb m n e) (rw (ne-eqb m 0 z)))
+
+pub ruleset answers = (reported, full, empty, between)
+
+-- ---- on the region of an open channel
+
 module _ (r : List ℕ) (f : Opened r) where
   abbrev o : Open
   o = openOf r

@@ -1,5 +1,5 @@
 -- What the verdict reads in the columns of the filters is what is held. Assumes nothing.
-use mathlib.Core.Path.{_≡_, sym, ap, _∙_}
+use mathlib.Core.Path.{_≡_, sym, ap, ap₂, _∙_}
 use Prim.Native.Nat.{ℕ, _+_, _*_, _<_}
 use native.Mathlib.Omega.{arith}
 use mathlib.Core.Bool.{Bool, true, false, not, _&&_}
@@ -12,7 +12,7 @@ use Rattle.codec.specs.Plain.{allZero}
 use Rattle.codec.proofs.Tests.{true-T}
 use Rattle.codec.proofs.Cells.{all-here}
 use Rattle.machine.specs.Limits.{mostPlaces, mostData}
-use Rattle.machine.specs.Filter.{Filter, hits, passes}
+use Rattle.machine.specs.Filter.{Slots, Filter, hits, passes}
 use Rattle.machine.proofs.Slots.{any-empty}
 use Rattle.layout.specs.Sizes.{widthsIn, sizesIn, masksIn, patternsIn}
 use Rattle.layout.specs.Memory.{filterBack, filters}
@@ -38,12 +38,20 @@ module _ (m : List ℕ) (v : FilterPart m) where
       ))
 
   -- the ten filters of the columns are those that are held
-  pub columns-held : (flags : ℕ) → filtersIn (take masksIn m) (tenRows masksIn m) (tenRows patternsIn m) ≡ filters flags .get m
+  columns-held : (flags : ℕ) → filtersIn (take masksIn m) (tenRows masksIn m) (tenRows patternsIn m) ≡ filters flags .get m
   unfolding filtersIn
   columns-held flags =
       let ten : length (listed mostPlaces columns) ≡ mostPlaces = listed-long columns mostPlaces in
       ext-getD none (listed mostPlaces columns) (filters flags .get m) (ten ∙ sym (ten-held m v flags))
       (λ i h. let k : i < mostPlaces = omega arith in listed-at columns mostPlaces i none k ∙ found-at i k ∙ sym (held-at m v i k flags))
+
+  -- a verdict on the columns is one on what is held
+  pub found : (masks patterns : List (List ℕ)) (wide : Bool) (frame : List ℕ) (b : Bool) → masks ≡ tenRows masksIn m → patterns ≡ tenRows patternsIn m
+      → b ≡ passes (filtersIn (take masksIn m) masks patterns) wide frame → (flags : ℕ) → b ≡ passes (filters flags .get m) wide frame
+  found masks patterns wide frame b em ep e flags =
+      e
+      ∙ ap₂ (λ (x y : List (List ℕ)). passes (filtersIn (take masksIn m) x y) wide frame) em ep
+      ∙ ap (λ (fs : Slots Filter). passes fs wide frame) (columns-held flags)
 
   -- with ten types 0 no frame is let in
   pub none-held : allZero (take mostPlaces m) ≡ true → (flags : ℕ) (wide : Bool) (bytes : List ℕ) → false ≡ passes (filters flags .get m) wide bytes

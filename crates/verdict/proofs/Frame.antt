@@ -7,6 +7,7 @@ use lib.Dec.{eqb}
 use lib.Bits.{bitAnd}
 use lib.ListN.{length, getD}
 use Rattle.codec.specs.Plain.{zeros, allBelow}
+use Rattle.machine.specs.Limits.{mostData}
 use Rattle.machine.specs.Message.{twelve}
 use Rattle.machine.specs.Filter.{Slots, Filter, anySlot, matches, hits, passes}
 
@@ -33,4 +34,4 @@ same-bytes fs wide a b h =
 
 pub padded-alike : (fs : Slots Filter) (wide : Bool) (bytes : List ℕ) → passes fs wide (twelve bytes) ≡ passes fs wide bytes
 unfolding twelve
-padded-alike fs wide bytes = same-bytes fs wide (bytes ++ zeros (12 - length bytes)) bytes (behind bytes (12 - length bytes))
+padded-alike fs wide bytes = same-bytes fs wide (bytes ++ zeros (mostData - length bytes)) bytes (behind bytes (mostData - length bytes))

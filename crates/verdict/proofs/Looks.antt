@@ -14,8 +14,10 @@ use lib.Dec.{eqb}
 use lib.Bits.{bitAnd}
 use borrow.Author.Tests.{eq-eqb, ne-eqb}
 use Rattle.codec.specs.Plain.{allBelow}
+use Rattle.machine.specs.Limits.{mostPlaces}
 use Rattle.machine.specs.Filter.{Slots, Filter, anySlot, matches, hits, passes}
 use Rattle.machine.proofs.Slots.{any-none, any-some, any-end}
+use Rattle.layout.specs.Sizes.{widthsIn, sizesIn}
 use Rattle.verdict.specs.Columns.{filterAt, filtersIn}
 use Rattle.verdict.proofs.Listed.{listed-long, listed-at}
 
@@ -33,7 +35,7 @@ module _ (p : ℕ → Bool) where
 
 -- ---- places looked at in order
 
-module _ (fs : Slots Filter) (ten : length fs ≡ 10) (wide : Bool) (bytes : List ℕ) where
+module _ (fs : Slots Filter) (ten : length fs ≡ mostPlaces) (wide : Bool) (bytes : List ℕ) where
   abbrev Pass : Filter → Bool
   Pass x = Bool·beq (x .block) false && matches wide bytes x
 
@@ -41,7 +43,7 @@ module _ (fs : Slots Filter) (ten : length fs ≡ 10) (wide : Bool) (bytes : Lis
   Block x = Bool·beq (x .block) true && matches wide bytes x
 
   pub record Seen (f : ℕ) (p : Bool) : Type 0 where
-    pub low : f ≤ 10
+    pub low : f ≤ mostPlaces
     pub passing : hits false fs wide bytes ≡ (p || anySlot Pass (drop f fs))
     pub blocking : hits true fs wide bytes ≡ anySlot Block (drop f fs)
 
@@ -49,7 +51,7 @@ module _ (fs : Slots Filter) (ten : length fs ≡ 10) (wide : Bool) (bytes : Lis
   unfolding hits
   seen-none = record { low = omega arith; passing = refl; blocking = refl }
 
-  module _ (f : ℕ) (p : Bool) (s : Seen f p) (h : f < 10) where
+  module _ (f : ℕ) (p : Bool) (s : Seen f p) (h : f < mostPlaces) where
     here : f < length fs
     here = omega arith
 
@@ -88,7 +90,7 @@ module _ (fs : Slots Filter) (ten : length fs ≡ 10) (wide : Bool) (bytes : Lis
         let all : hits true fs wide bytes ≡ true = s .blocking ∙ any-some fs f Block x here e ∙ ap (λ (b : Bool). b || anySlot Block (drop (f + 1) fs)) two in
         sym (ap (λ (b : Bool). hits false fs wide bytes && not b) all ∙ and-false (hits false fs wide bytes))
 
-  pub seen-all : (f : ℕ) (p : Bool) → Seen f p → 10 ≤ f → p ≡ passes fs wide bytes
+  pub seen-all : (f : ℕ) (p : Bool) → Seen f p → mostPlaces ≤ f → p ≡ passes fs wide bytes
   unfolding passes
   seen-all f p s h =
       let end : length fs ≤ f = omega arith in
@@ -103,9 +105,9 @@ abbrev pub fitsAt : List ℕ → List ℕ → List ℕ → ℕ → Bool
 fitsAt bytes mask pattern k = eqb (bitAnd (getD bytes k 0) (getD mask k 0)) (getD pattern k 0)
 
 module _ (heads : List ℕ) (masks patterns : List (List ℕ)) (wide : Bool) (frame : List ℕ) where
-  pub ten-filters : length (filtersIn heads masks patterns) ≡ 10
+  pub ten-filters : length (filtersIn heads masks patterns) ≡ mostPlaces
   unfolding filtersIn
-  ten-filters = listed-long (filterAt heads masks patterns) 10
+  ten-filters = listed-long (filterAt heads masks patterns) mostPlaces
 
   abbrev pub Looked : ℕ → Bool → Type 0
   Looked f p = Seen (filtersIn heads masks patterns) ten-filters wide frame f p
@@ -113,20 +115,20 @@ module _ (heads : List ℕ) (masks patterns : List (List ℕ)) (wide : Bool) (fr
   pub looked-none : Looked 0 false
   looked-none = seen-none (filtersIn heads masks patterns) ten-filters wide frame
 
-  pub looked-all : (f : ℕ) (p : Bool) → Looked f p → 10 ≤ f → p ≡ passes (filtersIn heads masks patterns) wide frame
+  pub looked-all : (f : ℕ) (p : Bool) → Looked f p → mostPlaces ≤ f → p ≡ passes (filtersIn heads masks patterns) wide frame
   looked-all = seen-all (filtersIn heads masks patterns) ten-filters wide frame
 
-  module _ (f : ℕ) (h : f < 10) where
+  module _ (f : ℕ) (h : f < mostPlaces) where
     at-place : getD (filtersIn heads masks patterns) f none ≡ filterAt heads masks patterns f
     unfolding filtersIn
-    at-place = listed-at (filterAt heads masks patterns) 10 f none h
+    at-place = listed-at (filterAt heads masks patterns) mostPlaces f none h
 
     abbrev Here : Filter
     Here =
         record {
           block = eqb (getD heads f 0) 2;
-          wide = eqb 1 (getD heads (10 + f) 0);
-          size = getD heads (20 + f) 0;
+          wide = eqb 1 (getD heads (widthsIn + f) 0);
+          size = getD heads (sizesIn + f) 0;
           mask = getD masks f [];
           pattern = getD patterns f [];
         }
@@ -136,7 +138,7 @@ module _ (heads : List ℕ) (masks patterns : List (List ℕ)) (wide : Bool) (fr
     here-is n = at-place ∙ rw (ne-eqb _ _ n)
 
     -- a filter of the frame's width all of whose bytes fit
-    fits : (b : ℕ) → Bool·beq wide (eqb 1 (getD heads (10 + f) 0)) ≡ true → b ≡ getD heads (20 + f) 0 → allBelow b (fitsAt frame (getD masks f []) (getD patterns f [])) ≡ true
+    fits : (b : ℕ) → Bool·beq wide (eqb 1 (getD heads (widthsIn + f) 0)) ≡ true → b ≡ getD heads (sizesIn + f) 0 → allBelow b (fitsAt frame (getD masks f []) (getD patterns f [])) ≡ true
         → matches wide frame Here ≡ true
     unfolding matches
     fits b w e a = rw (w, ← e, a)
@@ -147,17 +149,17 @@ module _ (heads : List ℕ) (masks patterns : List (List ℕ)) (wide : Bool) (fr
       empty-place e = seen-empty (filtersIn heads masks patterns) ten-filters wide frame f p s h (at-place ∙ rw (eq-eqb _ _ e))
 
       module _ (n : getD heads f 0 ≡ 0 → ⊥) where
-        pub other-width : Bool·beq wide (eqb 1 (getD heads (10 + f) 0)) ≡ false → Looked (f + 1) p
+        pub other-width : Bool·beq wide (eqb 1 (getD heads (widthsIn + f) 0)) ≡ false → Looked (f + 1) p
         unfolding matches
         other-width w = seen-missed (filtersIn heads masks patterns) ten-filters wide frame f p s h Here (here-is n) (rw w)
 
-        pub other-byte : (b : ℕ) → b < getD heads (20 + f) 0 → fitsAt frame (getD masks f []) (getD patterns f []) b ≡ false → Looked (f + 1) p
+        pub other-byte : (b : ℕ) → b < getD heads (sizesIn + f) 0 → fitsAt frame (getD masks f []) (getD patterns f []) b ≡ false → Looked (f + 1) p
         unfolding matches
         other-byte b l e =
             seen-missed (filtersIn heads masks patterns) ten-filters wide frame f p s h Here (here-is n)
-            (rw (all-fails (fitsAt frame (getD masks f []) (getD patterns f [])) (getD heads (20 + f) 0) b l e, and-false))
+            (rw (all-fails (fitsAt frame (getD masks f []) (getD patterns f [])) (getD heads (sizesIn + f) 0) b l e, and-false))
 
-        module _ (b : ℕ) (w : Bool·beq wide (eqb 1 (getD heads (10 + f) 0)) ≡ true) (e : b ≡ getD heads (20 + f) 0)
+        module _ (b : ℕ) (w : Bool·beq wide (eqb 1 (getD heads (widthsIn + f) 0)) ≡ true) (e : b ≡ getD heads (sizesIn + f) 0)
             (a : allBelow b (fitsAt frame (getD masks f []) (getD patterns f [])) ≡ true) where
           pub block-matches : getD heads f 0 ≡ 2 → false ≡ passes (filtersIn heads masks patterns) wide frame
           block-matches k = seen-blocked (filtersIn heads masks patterns) ten-filters wide frame f p s h Here (here-is n) (fits b w e a) (eq-eqb _ _ k)

@@ -6,6 +6,7 @@ use native.Mathlib.Omega.{arith}
 use lib.ListN.{drop}
 use denote.Ref.{now}
 use borrow.Author.Needs.{needs}
+use Rattle.machine.specs.Limits.{mostPlaces}
 use Rattle.machine.specs.Filter.{free}
 use Rattle.machine.proofs.Slots.{free-more, free-here, free-all}
 use Rattle.layout.specs.Memory.{filters}
@@ -14,10 +15,10 @@ use Rattle.filterbank.proofs.first_free.Statement.{statement}
 use Rattle.filterbank.proofs.first_free.Tie as tie
 
 abbrev Inv-loop : tie.InvT-loop
-Inv-loop part i₀ i = (i ≤ 10) × ((flags : ℕ) → free (filters flags .get part) ≡ i + free (drop i (filters flags .get part)))
+Inv-loop part i₀ i = (i ≤ mostPlaces) × ((flags : ℕ) → free (filters flags .get part) ≡ i + free (drop i (filters flags .get part)))
 
 abbrev μ-loop : tie.MeasureT-loop
-μ-loop part i₀ i = 10 - i
+μ-loop part i₀ i = mostPlaces - i
 
 loop-holds : tie.Need-loop-holds Inv-loop μ-loop
 loop-holds c = (omega arith, λ flags. sym (zero-add (free (filters flags .get (now (c .args .part))))))

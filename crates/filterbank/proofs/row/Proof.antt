@@ -7,12 +7,13 @@ use lib.ListN.{take, drop}
 use denote.Ref.{now}
 use borrow.Author.Needs.{needs}
 use Rattle.codec.specs.Plain.{zeros}
+use Rattle.machine.specs.Limits.{mostData}
 use Rattle.filterbank.proofs.Rows.{row-more, row-done}
 use Rattle.filterbank.proofs.row.Statement.{statement}
 use Rattle.filterbank.proofs.row.Tie as tie
 
 abbrev Inv-loop : tie.InvT-loop
-Inv-loop mem at size out₀ b₀ out b = (b ≤ size) × (out ≡ take b (drop at mem) ++ drop b (zeros 12))
+Inv-loop mem at size out₀ b₀ out b = (b ≤ size) × (out ≡ take b (drop at mem) ++ drop b (zeros mostData))
 
 abbrev μ-loop : tie.MeasureT-loop
 μ-loop mem at size out₀ b₀ out b = size - b

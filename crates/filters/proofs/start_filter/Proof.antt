@@ -6,11 +6,12 @@ use Prim.Native.Nat.{ℕ, _<_}
 use native.Mathlib.Omega.{arith}
 use denote.Ref.{now}
 use borrow.Author.Needs.{needs}
+use Rattle.machine.specs.Limits.{mostPlaces}
 use Rattle.machine.specs.Filter.{free}
 use Rattle.machine.specs.Channel.{filterCode}
 use Rattle.layout.proofs.Region.{openOf}
 use Rattle.filterbank.proofs.Lent.{part-lent, held-is}
-use Rattle.filters.proofs.Steps.{room, checked}
+use Rattle.filtercheck.proofs.Laws.{room, checked}
 use Rattle.filters.proofs.OnRegion.{flags-are, not-started, started}
 use Rattle.filters.proofs.start_filter.Statement.{statement}
 use Rattle.filters.proofs.start_filter.Tie as tie
@@ -43,7 +44,7 @@ good : (e : tie.Else1) → let start = e .before .before .before .before .before
     0 ≡ filterCode (openOf (now (start .args .r))) (start .args .kind) (now (start .args .mask)) (now (start .args .pattern))
 good e = sym (e .if1 .left) ∙ code-is (e .before)
 
-below-ten : (e : tie.Else1) → e .before .before .before .before .first-free .result < 10
+below-ten : (e : tie.Else1) → e .before .before .before .before .first-free .result < mostPlaces
 below-ten e =
     let start = e .before .before .before .before .before .before .before .before .before .before in
     let k = room (openOf (now (start .args .r))) (start .args .kind) (now (start .args .mask)) (now (start .args .pattern)) (sym (good e)) in

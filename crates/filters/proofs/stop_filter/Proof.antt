@@ -7,13 +7,14 @@ use denote.Ref.{now}
 use borrow.Author.Needs.{needs}
 use borrow.Author.Tests.{not-true, not-false}
 use Rattle.codec.specs.Plain.{within}
+use Rattle.machine.specs.Limits.{mostPlaces}
 use Rattle.filterbank.proofs.Lent.{part-lent}
 use Rattle.filters.proofs.OnRegion.{place-of, no-number, not-held, stopped}
 use Rattle.filters.proofs.stop_filter.Statement.{statement}
 use Rattle.filters.proofs.stop_filter.Tie as tie
 
 -- the number is one of ten
-one-of-ten : (c : tie.Else1) → within 1 10 (c .before .before .before .args .number) ≡ true
+one-of-ten : (c : tie.Else1) → within 1 mostPlaces (c .before .before .before .args .number) ≡ true
 one-of-ten c = sym (c .before .between .ensures) ∙ not-false _ (c .if1 .left)
 
 returns : tie.Need-returns

@@ -1,16 +1,15 @@
 -- `verdict::lets_in` meets its contract: what the verdict finds in the columns is what is held. Assumes nothing.
-use mathlib.Core.Path.{sym, ap, ap₂, subst, _∙_}
+use mathlib.Core.Path.{sym, subst, _∙_}
 use mathlib.Core.List.{List}
 use Prim.Native.Nat.{ℕ, _+_, _≤_}
 use native.Mathlib.Omega.{arith}
-use lib.ListN.{take}
 use lib.Seq.{getD-take, length-take-le}
 use denote.Ref.{now}
 use borrow.Author.Needs.{needs}
-use Rattle.machine.specs.Filter.{Slots, Filter, passes}
-use Rattle.verdict.specs.Columns.{filtersIn}
+use Rattle.machine.specs.Limits.{mostData}
+use Rattle.layout.specs.Sizes.{sizesIn, masksIn}
 use Rattle.filterbank.proofs.Held.{size-small}
-use Rattle.verdict.proofs.Columns.{none-held, columns-held}
+use Rattle.verdict.proofs.Columns.{none-held, found}
 use Rattle.verdict.proofs.lets_in.Statement.{statement}
 use Rattle.verdict.proofs.lets_in.Tie as tie
 
@@ -23,16 +22,12 @@ verdict-requires : tie.Need-verdict-requires
 verdict-requires c κs =
     let start = c .before .before .before .before .before .before .before in
     let m : List ℕ = now (start .args .part) in
-    (length-take-le 30 m (omega (arith, start .pre .long)), λ f h. subst (λ (k : ℕ). k ≤ 12) (sym (getD-take 30 m (20 + f) 0 (omega arith))) (size-small m (start .pre) f h))
+    (length-take-le masksIn m (omega (arith, start .pre .long)), λ f h. subst (λ (k : ℕ). k ≤ mostData) (sym (getD-take masksIn m (sizesIn + f) 0 (omega arith))) (size-small m (start .pre) f h))
 
 returns-2 : tie.Need-returns-2
 returns-2 c =
     let start = c .before .before .before .before .before .before .before .before in
-    let m : List ℕ = now (start .args .part) in
-    λ flags.
-    c .verdict .ensures
-    ∙ ap₂ (λ (a b : List (List ℕ)). passes (filtersIn (take 30 m) a b) (start .args .wide) (start .args .frame)) (c .before .before .before .rows .ensures) (c .before .before .rows2 .ensures)
-    ∙ ap (λ (fs : Slots Filter). passes fs (start .args .wide) (start .args .frame)) (columns-held m (start .pre) flags)
+    found (now (start .args .part)) (start .pre) _ _ (start .args .wide) (start .args .frame) (c .verdict .result) (c .before .before .before .rows .ensures) (c .before .before .rows2 .ensures) (c .verdict .ensures)
 
 pub lets-in-spec : {M : Type 1} → statement M
 lets-in-spec =

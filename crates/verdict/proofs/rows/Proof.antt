@@ -6,6 +6,7 @@ use native.Mathlib.Omega.{arith}
 use lib.ListN.{length, take, drop, length-set}
 use denote.Ref.{now}
 use borrow.Author.Needs.{needs}
+use Rattle.machine.specs.Limits.{mostPlaces, mostData}
 use Rattle.verdict.specs.Columns.{listed, tenRows}
 use Rattle.filterbank.proofs.Rows.{whole-row}
 use Rattle.verdict.proofs.Listed.{listed-more, listed-done}
@@ -13,10 +14,10 @@ use Rattle.verdict.proofs.rows.Statement.{statement}
 use Rattle.verdict.proofs.rows.Tie as tie
 
 abbrev Inv-loop : tie.InvT-loop
-Inv-loop mem at out₀ f₀ out f = (f ≤ 10) × (length out ≡ 10) × (take f out ≡ listed f (λ k. take 12 (drop (at + k * 12) mem)))
+Inv-loop mem at out₀ f₀ out f = (f ≤ mostPlaces) × (length out ≡ mostPlaces) × (take f out ≡ listed f (λ k. take mostData (drop (at + k * mostData) mem)))
 
 abbrev μ-loop : tie.MeasureT-loop
-μ-loop mem at out₀ f₀ out f = 10 - f
+μ-loop mem at out₀ f₀ out f = mostPlaces - f
 
 loop-holds : tie.Need-loop-holds Inv-loop μ-loop
 unfolding listed
@@ -29,8 +30,8 @@ loop-again c =
     let m : List ℕ = now (a .mem) in (
       omega arith,
       simp length-set (search needs),
-      listed-more (λ k. take 12 (drop (a .at + k * 12) m)) (l .f) (l .out) (c .row .result) (omega arith)
-          (c .row .ensures ∙ whole-row m (a .at + l .f * 12) (omega arith)) (l .inv .2),
+      listed-more (λ k. take mostData (drop (a .at + k * mostData) m)) (l .f) (l .out) (c .row .result) (omega arith)
+          (c .row .ensures ∙ whole-row m (a .at + l .f * mostData) (omega arith)) (l .inv .2),
     )
 
 returns : tie.Need-returns Inv-loop μ-loop
@@ -39,8 +40,8 @@ returns c =
     let l = c .before .loop in
     let a = c .before .before .before .args in
     let m : List ℕ = now (a .mem) in
-    let e : l .f ≡ 10 = omega arith in
-    listed-done (λ k. take 12 (drop (a .at + k * 12) m)) 10 (l .out) (l .inv .1) (rw e at (l .inv .2))
+    let e : l .f ≡ mostPlaces = omega arith in
+    listed-done (λ k. take mostData (drop (a .at + k * mostData) m)) mostPlaces (l .out) (l .inv .1) (rw e at (l .inv .2))
 
 pub rows-spec : {M : Type 1} → statement M
 rows-spec =

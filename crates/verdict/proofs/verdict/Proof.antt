@@ -10,6 +10,8 @@ use lib.ListN.{getD}
 use borrow.Author.Needs.{needs}
 use borrow.Author.Tests.{eq-eqb, ne-eqb, not-true, not-false}
 use Rattle.codec.specs.Plain.{allBelow}
+use Rattle.machine.specs.Limits.{mostPlaces, mostData}
+use Rattle.layout.specs.Sizes.{widthsIn, sizesIn}
 use Rattle.verdict.proofs.Looks.{all-more, fitsAt, Looked, looked-none, looked-all, empty-place, other-width, other-byte, block-matches, pass-matches}
 use Rattle.verdict.proofs.verdict.Statement.{statement}
 use Rattle.verdict.proofs.verdict.Tie as tie
@@ -17,13 +19,13 @@ use Rattle.verdict.proofs.verdict.Tie as tie
 abbrev Inv-loop : tie.InvT-loop
 Inv-loop heads wide masks patterns frame passed f₀ kind size b₀ f b =
     (f ≡ f₀)
-    × (f < 10)
+    × (f < mostPlaces)
     × (b ≤ size)
-    × (size ≡ getD heads (20 + f) 0)
-    × (size ≤ 12)
+    × (size ≡ getD heads (sizesIn + f) 0)
+    × (size ≤ mostData)
     × (kind ≡ getD heads f 0)
     × (getD heads f 0 ≡ 0 → ⊥)
-    × (Bool·beq wide (eqb 1 (getD heads (10 + f) 0)) ≡ true)
+    × (Bool·beq wide (eqb 1 (getD heads (widthsIn + f) 0)) ≡ true)
     × (allBelow b (fitsAt frame (getD masks f []) (getD patterns f [])) ≡ true)
     × Looked heads masks patterns wide frame f passed
 
@@ -34,7 +36,7 @@ abbrev Inv-filters : tie.InvT-filters
 Inv-filters heads wide masks patterns frame passed₀ f₀ passed f = Looked heads masks patterns wide frame f passed
 
 abbrev μ-filters : tie.MeasureT-filters
-μ-filters heads wide masks patterns frame passed₀ f₀ passed f = 10 - f
+μ-filters heads wide masks patterns frame passed₀ f₀ passed f = mostPlaces - f
 
 filters-holds : tie.Need-filters-holds Inv-loop μ-loop Inv-filters μ-filters
 filters-holds c = looked-none _ _ _ _ _
@@ -48,7 +50,7 @@ filters-again-2 c =
     other-width _ _ _ _ _ (l .f) (search needs) _ (l .inv) (c .before .before .if1 .left) (not-true _ (c .if2 .taken))
 
 cast-size : tie.Need-cast-size Inv-loop μ-loop Inv-filters μ-filters
-cast-size c = omega (arith, c .shared-slice-known3 .given (20 + c .before .before .before .before .before .before .filters .f))
+cast-size c = omega (arith, c .shared-slice-known3 .given (sizesIn + c .before .before .before .before .before .before .filters .f))
 
 loop-holds : tie.Need-loop-holds Inv-loop μ-loop Inv-filters μ-filters
 unfolding allBelow

@@ -1,8 +1,8 @@
--- `filters::between` meets its contract, which is its code. Assumes nothing.
+-- `filtercheck::between` meets its contract, which is its code. Assumes nothing.
 use mathlib.Core.Path.{refl}
 use Rattle.codec.specs.Plain.{within}
-use Rattle.filters.proofs.between.Statement.{statement}
-use Rattle.filters.proofs.between.Tie as tie
+use Rattle.filtercheck.proofs.between.Statement.{statement}
+use Rattle.filtercheck.proofs.between.Tie as tie
 
 returns : tie.Need-returns
 unfolding within

@@ -1,4 +1,4 @@
--- `filters::start_code` meets its contract: its tests are those of a start, in their order. Assumes nothing.
+-- `filtercheck::start_code` meets its contract: its tests are those of a start, in their order. Assumes nothing.
 use mathlib.Core.Path.{_≡_, sym, ap, ap₂, _∙_}
 use mathlib.Core.Bool.{Bool, not, _&&_, _||_}
 use Prim.Native.Nat.{ℕ, _/_, _%_}
@@ -7,12 +7,13 @@ use denote.Ref.{now}
 use borrow.Author.Needs.{needs}
 use borrow.Author.Tests.{le-leb, lt-leb, not-true, not-false}
 use Rattle.codec.specs.Plain.{if_then_else_, within}
+use Rattle.machine.specs.Limits.{mostData, mostPlaces}
 use Rattle.machine.specs.Message.{bit, protocolOf, sizeOf, txFlagsOf, wideOf, takes}
 use Rattle.machine.specs.Filter.{free}
 use Rattle.machine.specs.Channel.{Open, filterCode}
-use Rattle.filters.proofs.Steps.{badProtocol, goodShape, short-mask, short-pattern, bad-type, bad-protocol, bad-shape, last-test}
-use Rattle.filters.proofs.start_code.Statement.{statement}
-use Rattle.filters.proofs.start_code.Tie as tie
+use Rattle.filtercheck.proofs.Laws.{badProtocol, goodShape, short-mask, short-pattern, bad-type, bad-protocol, bad-shape, last-test}
+use Rattle.filtercheck.proofs.start_code.Statement.{statement}
+use Rattle.filtercheck.proofs.start_code.Tie as tie
 
 returns : tie.Need-returns
 returns c =
@@ -57,7 +58,7 @@ shape w =
     let a = w .before .before .before .before .before .before .before .before .before .before .before .before .before .before .before .args in
     let size = w .before .before .before .before .before .word-at3 .ensures .0 in
     let tx = w .before .before .before .before .word-at4 .ensures .0 in
-    let within-is = w .before .between2 .ensures ∙ ap (within 1 12) size in
+    let within-is = w .before .between2 .ensures ∙ ap (within 1 mostData) size in
     let takes-is = w .takes-width .ensures ∙ ap (λ (x : ℕ). takes (a .flags) (eqb (x / 256 % 2) 1)) tx in
     λ i. (eqb (size i) (w .before .before .before .word-at5 .ensures .0 i) && eqb (tx i) (w .before .before .word-at6 .ensures .0 i)) && (within-is i && takes-is i)
 
@@ -73,7 +74,7 @@ returns-5 c =
 -- the last test
 last : (w : tie.Else5) → let at = w .before .before .before .before .before .before .before .before in
     let a = at .before .before .before .before .before .before .before .before .args in
-    (o : Open) → o .config .flags ≡ a .flags → free (o .filters) ≡ a .place → (if leb 10 (a .place) then 0x0C else 0x00) ≡ filterCode o (a .kind) (now (a .mask)) (now (a .pattern))
+    (o : Open) → o .config .flags ≡ a .flags → free (o .filters) ≡ a .place → (if leb mostPlaces (a .place) then 0x0C else 0x00) ≡ filterCode o (a .kind) (now (a .mask)) (now (a .pattern))
 last c =
     let at = c .before .before .before .before .before .before .before .before in
     let a = at .before .before .before .before .before .before .before .before .args in
