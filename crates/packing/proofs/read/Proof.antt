@@ -14,7 +14,7 @@ use Rattle.packing.proofs.read.Tie as tie
 
 returns : tie.Need-returns
 unfolding reading refusal
-returns c = rw (lt-ltb _ _ (c .if1 .taken))
+returns c = rw (lt-ltb _ 32 (c .if1 .taken))
 
 returns-2 : tie.Need-returns-2
 returns-2 c = unread _ _ _ (c .before .name .ensures) (c .if2 .taken) (search needs)

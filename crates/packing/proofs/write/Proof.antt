@@ -10,16 +10,16 @@ use Rattle.packing.proofs.write.Tie as tie
 
 returns : tie.Need-returns
 unfolding writing refusal
-returns c = rw (c .refused .ensures .0, c .refused .ensures .1, lt-ltb _ _ (c .before .if1 .taken))
+returns c = rw (c .refused .ensures .0, c .refused .ensures .1, lt-ltb _ 32 (c .before .if1 .taken))
 
 returns-2 : tie.Need-returns-2
 unfolding writing refusal
-returns-2 c = rw (c .refused2 .ensures .0, c .refused2 .ensures .1, le-ltb _ _ (c .before .before .if1 .left), lt-ltb _ _ (c .before .if2 .taken))
+returns-2 c = rw (c .refused2 .ensures .0, c .refused2 .ensures .1, le-ltb _ 32 (c .before .before .if1 .left), lt-ltb _ 8 (c .before .if2 .taken))
 
 returns-3 : tie.Need-returns-3
 unfolding writing unpacked refusal
 returns-3 c =
-    rw (c .refused3 .ensures .0, c .refused3 .ensures .1, le-ltb _ _ (c .before .before .before .before .before .if1 .left), le-ltb _ _ (c .before .before .before .before .if2 .left), unsaid _ _ (c .before .before .before .telegram-in .ensures) (c .before .enum-told .given .1))
+    rw (c .refused3 .ensures .0, c .refused3 .ensures .1, le-ltb _ 32 (c .before .before .before .before .before .if1 .left), le-ltb _ 8 (c .before .before .before .before .if2 .left), unsaid _ _ (c .before .before .before .telegram-in .ensures) (c .before .enum-told .given .1))
 
 cast-t16 : tie.Need-cast-t16
 cast-t16 c = let h = short-write _ _ _ _ (c .before .before .before .write .ensures) in omega arith

@@ -8,15 +8,15 @@ use Rattle.tp20.proofs.write.Tie as tie
 
 returns : tie.Need-returns
 unfolding wrote refusal writing
-returns c = rw (lt-ltb _ _ (c .if1 .taken))
+returns c = rw (lt-ltb _ 8 (c .if1 .taken))
 
 returns-2 : tie.Need-returns-2
 unfolding said writing anyFits anyBytes
-returns-2 c = rw (c .before .before .before .before .before .telegram .given .1, le-ltb _ _ (c .before .before .before .before .before .before .before .if1 .left)) (c .before .before .opening .ensures)
+returns-2 c = rw (c .before .before .before .before .before .telegram .given .1, le-ltb _ 8 (c .before .before .before .before .before .before .before .if1 .left)) (c .before .before .opening .ensures)
 
 returns-3 : tie.Need-returns-3
 unfolding said writing anyFits anyBytes
-returns-3 c = rw (c .before .before .before .before .before .telegram2 .given .1, le-ltb _ _ (c .before .before .before .before .before .before .before .if1 .left)) (c .before .before .channel .ensures)
+returns-3 c = rw (c .before .before .before .before .before .telegram2 .given .1, le-ltb _ 8 (c .before .before .before .before .before .before .before .if1 .left)) (c .before .before .channel .ensures)
 
 pub write-spec : {M : Type 1} → statement M
 write-spec =
