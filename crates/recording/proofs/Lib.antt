@@ -5,3 +5,5 @@ pub mod Writing
 pub mod Answers
 pub mod Playing
 pub mod Whole
+pub mod Again
+pub mod Turning

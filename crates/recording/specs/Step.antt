@@ -1,11 +1,15 @@
 -- What one event of a replay leaves, in the words of the functions below the replay. Assumes nothing.
 use Prim.Native.Nat.{ℕ, _+_}
 use mathlib.Core.List.{List, _++_}
+use mathlib.Core.Option.{Option, none, some}
 use mathlib.Core.Path.{_≡_}
 use lib.ListN.{length, take, drop}
 use Rattle.machine.specs.Codes.{threeRates}
 use Rattle.machine.specs.Device.{Event, step}
 use Rattle.layout.specs.Memory.{image, load}
+use Rattle.layout.specs.Reach.{Bytes}
+use Rattle.number.specs.Place.{Written}
+use Rattle.events.specs.Events.{readEvent}
 use Rattle.recording.specs.Output.{answerBytes}
 
 -- bytes were written at a place of a buffer: they stand there, the others stay, and `next` is the place after them
@@ -17,3 +21,12 @@ pub record Put (buffer : List ℕ) (at : ℕ) (bytes : List ℕ) (next : ℕ) (a
 pub record Answered (e : Event) (m buffer : List ℕ) (at next : ℕ) (m′ buffer′ : List ℕ) : Type 0 where
   pub memory : m′ ≡ image (step threeRates (load m) e .0)
   pub written : Put buffer at (answerBytes e (step threeRates (load m) e .1)) next buffer′
+
+-- what was read at a place was played: an event is answered, what it lends is bytes, and the replay goes on after it; where there is none, the
+-- number 255 is written, and the replay is at the recording's end
+unfoldable pub TurnedAs : Option (Event × ℕ) → List ℕ → List ℕ → List ℕ → ℕ → ℕ → ℕ → List ℕ → List ℕ → Type 0
+TurnedAs none s m buffer at next place m′ buffer′ = (m′ ≡ m) × (next ≡ length s) × Written buffer at 255 place buffer′
+TurnedAs (some r) s m buffer at next place m′ buffer′ = (next ≡ r .1) × Bytes (r .0) × Answered (r .0) m buffer at place m′ buffer′
+
+unfoldable pub Turned : List ℕ → ℕ → List ℕ → List ℕ → ℕ → ℕ → ℕ → List ℕ → List ℕ → Type 0
+Turned s at m buffer place next place′ m′ buffer′ = TurnedAs (readEvent s at) s m buffer place next place′ m′ buffer′

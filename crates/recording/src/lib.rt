@@ -14,12 +14,13 @@ ghost use Rattle.layout.specs.Promise.{gives, outcome};
 ghost use Rattle.events.specs.Found.{plainOf, givingOf, eventOf, PlainThere, GivingThere, EventThere};
 ghost use Rattle.recording.specs.Output.{numbered, counted};
 ghost use Rattle.recording.specs.Replay.{leaves, played, roomFor, replayed};
-ghost use Rattle.recording.specs.Step.{Put, Answered};
+ghost use Rattle.recording.specs.Step.{Put, Answered, Turned};
 use codes::Answer;
 use events::Event;
 use events::Found;
 use events::Giving;
 use events::Plain;
+use number::Reader;
 
 // The most bytes of a recording.
 const LONGEST: usize = 32768;
@@ -178,19 +179,39 @@ fn play(mem: &mut [u8], recording: &[u8], e: Event, out: &mut [u8], at: usize) -
     }
 }
 
-// Plays a recording on a memory of zeros, event by event, to its end or a bad event; gives the length of the output.
+// Where an event leaves off: the place after it, and the place after its answer.
+struct Turn {
+    next: usize,
+    place: usize,
+}
+
+// Plays the event at a place of a recording; a bad one is answered as such, and ends the recording.
+fn play_at(mem: &mut [u8], recording: &[u8], at: usize, out: &mut [u8], place: usize) -> Turn
+    requires { ⌜ T (valid (now mem)) × (place + 2306 ≤ length (now out)) ⌝ }
+    ensures { λ r. ⌜ Turned (now (recording .entry)) at (now (mem .entry)) (now (out .entry)) place (r .next) (r .place) (now (mem .exit)) (now (out .exit)) ⌝ }
+{
+    let Found::Good(e, next) = events::read_event(recording, at) else {
+        let after = number::put_number(out, place, BAD_EVENT);
+        return Turn {
+            next: recording.len(),
+            place: after,
+        };
+    };
+    let after = play(mem, recording, e, out, place);
+    Turn { next, place: after }
+}
+
+// Plays a recording on a memory of zeros, event by event, to its end or a bad event: a reader moves through it. Gives the length of the output.
 fn play_all(mem: &mut [u8], recording: &[u8], out: &mut [u8]) -> usize
     requires { ⌜ (now mem ≡ zeros 9996) × (19 * length (now recording) + 2306 ≤ length (now out)) ⌝ }
     ensures { λ r. ⌜ Put (now (out .entry)) 0 (played (length (now (recording .entry))) powerOn (now (recording .entry)) 0) r (now (out .exit)) ⌝ }
 {
-    let mut at = 0;
+    let mut reader = Reader::new(recording, 0);
     let mut place = 0;
-    while at < recording.len() {
-        let Found::Good(e, next) = events::read_event(recording, at) else {
-            return number::put_number(out, place, BAD_EVENT);
-        };
-        place = play(mem, recording, e, out, place);
-        at = next;
+    while !reader.at_end() {
+        let turn = play_at(mem, recording, reader.at, out, place);
+        place = turn.place;
+        reader = reader.moved_to(turn.next);
     }
     place
 }
