@@ -22,11 +22,12 @@ use Rattle.events.specs.declared.Plain.the-variants as plain
 use Rattle.events.specs.declared.Giving.{Giving}
 use Rattle.events.specs.declared.Giving.the-variants as giving
 use Rattle.events.specs.Found.{plainOf, givingOf}
-use Rattle.recording.specs.Output.{onDone, afterCall, afterCode, answerBytes, numbered, counted}
-use Rattle.recording.specs.Step.{Put, Answered}
+use Rattle.answers.specs.Output.{onDone, afterCall, afterCode, answerBytes, numbered, counted}
+use Rattle.answers.specs.Put.{Put}
+use Rattle.recording.specs.Step.{Answered}
 use Rattle.recording.proofs.Room.{small-number, small-code}
 use Rattle.recording.proofs.Lent.{Gives, Counted, OneOrNone, reads, takes}
-use Rattle.recording.proofs.Writing.{put-same, put-before, put-lent}
+use Rattle.answers.proofs.Put.{put-same, put-before, put-lent}
 
 -- ---- what a call on a valid memory promises, taken apart
 

@@ -32,11 +32,12 @@ use Rattle.events.specs.declared.Found.{Found}
 use Rattle.events.specs.declared.Found.the-variants as found
 use Rattle.events.specs.Found.{between, plainOf, givingOf, eventOf, foundOf, EventThere, FoundThere, ReadsAs}
 use Rattle.events.proofs.Ending.{event-ends}
-use Rattle.recording.specs.Output.{answerBytes}
-use Rattle.recording.specs.Step.{Put, Answered}
+use Rattle.answers.specs.Output.{answerBytes}
+use Rattle.answers.specs.Put.{Put}
+use Rattle.recording.specs.Step.{Answered}
 use Rattle.recording.specs.Replay.{badEvent, replies, played}
 use Rattle.recording.proofs.Room.{held, one-at-least, event-grows}
-use Rattle.recording.proofs.Writing.{put-number, put-same, put-length, put-then}
+use Rattle.answers.proofs.Put.{put-number, put-same, put-length, put-then}
 
 -- ---- what an event lends is bytes where the recording is
 

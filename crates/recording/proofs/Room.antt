@@ -22,7 +22,7 @@ use Rattle.machine.proofs.Refusals.{unless-case, if-case, codes-in-table}
 use Rattle.number.specs.Number.{bytesOf}
 use Rattle.number.proofs.Laws.{groups-one, written-short}
 use Rattle.events.proofs.Ending.{least}
-use Rattle.recording.specs.Output.{onDone, afterCall, afterCode, answerBytes}
+use Rattle.answers.specs.Output.{onDone, afterCall, afterCode, answerBytes}
 
 -- ---- what channels hold
 

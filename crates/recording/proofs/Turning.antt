@@ -15,7 +15,8 @@ use Rattle.events.specs.Events.{readEvent}
 use Rattle.events.proofs.Ending.{event-ends}
 use Rattle.layout.specs.Reach.{Bytes}
 use Rattle.number.specs.Place.{Written}
-use Rattle.recording.specs.Step.{Put, Answered, TurnedAs, Turned}
+use Rattle.answers.specs.Put.{Put}
+use Rattle.recording.specs.Step.{Answered, TurnedAs, Turned}
 use Rattle.recording.specs.Replay.{played}
 use Rattle.recording.proofs.Room.{held, one-at-least}
 use Rattle.recording.proofs.Playing.{Playing, from-zeros, same-output, room-left, ended, stopped, goes-on}

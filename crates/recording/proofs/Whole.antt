@@ -9,8 +9,8 @@ use Rattle.machine.specs.Device.{powerOn}
 use Rattle.number.specs.Number.{groups, bytesOf}
 use Rattle.number.specs.Place.{Written}
 use Rattle.recording.specs.Replay.{badEvent, played, output, roomFor, leaves, replayed}
-use Rattle.recording.specs.Step.{Put}
-use Rattle.recording.proofs.Writing.{put-number, put-same}
+use Rattle.answers.specs.Put.{Put}
+use Rattle.answers.proofs.Put.{put-number, put-same}
 
 module _ (s : List ℕ) where
   pub long-room : 32768 < length s → roomFor s ≡ 2

@@ -1,4 +1,3 @@
 -- What a replay writes, and what the contracts of this crate cite. Assumes nothing.
-pub mod Output
 pub mod Replay
 pub mod Step

@@ -10,7 +10,7 @@ use Rattle.number.specs.Number.{bytesOf}
 use Rattle.machine.specs.Codes.{threeRates}
 use Rattle.machine.specs.Device.{Device, powerOn, Event, step}
 use Rattle.events.specs.Events.{readEvent}
-use Rattle.recording.specs.Output.{answerBytes}
+use Rattle.answers.specs.Output.{answerBytes}
 
 -- a bad event writes the number 255
 unfoldable pub badEvent : List ℕ

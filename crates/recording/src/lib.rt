@@ -11,16 +11,16 @@ ghost use Rattle.machine.specs.Channel.{read as reads};
 ghost use Rattle.machine.specs.Device.{call, powerOn};
 ghost use Rattle.layout.specs.Memory.{valid};
 ghost use Rattle.layout.specs.Promise.{gives, outcome};
+ghost use Rattle.answers.specs.Put.{Put};
 ghost use Rattle.events.specs.Found.{plainOf, givingOf, eventOf, PlainThere, GivingThere, EventThere};
-ghost use Rattle.recording.specs.Output.{numbered, counted};
 ghost use Rattle.recording.specs.Replay.{leaves, played, roomFor, replayed};
-ghost use Rattle.recording.specs.Step.{Put, Answered, Turned};
+ghost use Rattle.recording.specs.Step.{Answered, Turned};
 use codes::Answer;
 use events::Event;
 use events::Found;
 use events::Giving;
 use events::Plain;
-use number::Reader;
+use reader::Reader;
 
 // The most bytes of a recording.
 const LONGEST: usize = 32768;
@@ -102,27 +102,6 @@ fn giving_answer(mem: &mut [u8], recording: &[u8], e: Giving) -> Answer
     }
 }
 
-// Writes a code from a place on and, where it is 0x00, the number; gives the place after them.
-fn put_done(out: &mut [u8], at: usize, code: u32, value: u32) -> usize
-    requires { ⌜ at + 10 ≤ length (now out) ⌝ }
-    ensures { λ r. ⌜ Put (now (out .entry)) at (numbered code value) r (now (out .exit)) ⌝ }
-{
-    let next = number::put_number(out, at, code);
-    if code != codes::STATUS_NOERROR {
-        return next;
-    }
-    number::put_number(out, next, value)
-}
-
-// Writes a code and a count from a place on; gives the place after them.
-fn put_count(out: &mut [u8], at: usize, code: u32, count: u32) -> usize
-    requires { ⌜ at + 10 ≤ length (now out) ⌝ }
-    ensures { λ r. ⌜ Put (now (out .entry)) at (counted code count) r (now (out .exit)) ⌝ }
-{
-    let next = number::put_number(out, at, code);
-    number::put_number(out, next, count)
-}
-
 // Plays a read: the records go straight to their place in the output, and the code and the count stand in front of them.
 fn read_into(mem: &mut [u8], out: &mut [u8], at: usize, channel: u32, n: u32) -> usize
     requires { ⌜ T (valid (now mem)) × (n ≤ 64) × (at + 2306 ≤ length (now out)) ⌝ }
@@ -159,11 +138,11 @@ fn play(mem: &mut [u8], recording: &[u8], e: Event, out: &mut [u8], at: usize) -
     match e {
         Event::Code(p) => {
             let code = plain_code(mem, recording, p);
-            number::put_number(out, at, code)
+            answers::put_number(out, at, code)
         }
         Event::Number(g) => {
             let a = giving_answer(mem, recording, g);
-            put_done(out, at, a.code, a.value)
+            answers::put_done(out, at, a.code, a.value)
         }
         Event::Write {
             channel,
@@ -172,7 +151,7 @@ fn play(mem: &mut [u8], recording: &[u8], e: Event, out: &mut [u8], at: usize) -
             end,
         } => {
             let a = owned::write(mem, channel, n, &recording[from..end]);
-            put_count(out, at, a.code, a.value)
+            answers::put_count(out, at, a.code, a.value)
         }
         Event::Read(channel, n) => read_into(mem, out, at, channel, n),
         Event::Take(channel) => take_into(mem, out, at, channel),
@@ -191,7 +170,7 @@ fn play_at(mem: &mut [u8], recording: &[u8], at: usize, out: &mut [u8], place: u
     ensures { λ r. ⌜ Turned (now (recording .entry)) at (now (mem .entry)) (now (out .entry)) place (r .next) (r .place) (now (mem .exit)) (now (out .exit)) ⌝ }
 {
     let Found::Good(e, next) = events::read_event(recording, at) else {
-        let after = number::put_number(out, place, BAD_EVENT);
+        let after = answers::put_number(out, place, BAD_EVENT);
         return Turn {
             next: recording.len(),
             place: after,
@@ -238,7 +217,7 @@ pub fn replay(recording: &[u8], out: &mut [u8]) -> Played
         };
     }
     if recording.len() > LONGEST {
-        let length = number::put_number(out, 0, BAD_EVENT);
+        let length = answers::put_number(out, 0, BAD_EVENT);
         return Played {
             code: codes::STATUS_NOERROR,
             length,

@@ -5,8 +5,8 @@ use denote.Ref.{now}
 use Rattle.number.specs.Number.{bytesOf}
 use Rattle.events.specs.declared.Event.{Event}
 use Rattle.events.specs.Found.{EventThere}
-use Rattle.recording.specs.Output.{numbered, counted}
-use Rattle.recording.proofs.Writing.{number-fits, put-number}
+use Rattle.answers.specs.Output.{numbered, counted}
+use Rattle.answers.proofs.Put.{number-fits, put-number}
 use Rattle.recording.proofs.Answers.{answers, plain-bytes, giving-bytes, write-bytes}
 use borrow.Author.Needs.{needs}
 use Rattle.recording.proofs.play.Statement.{statement}

@@ -47,30 +47,30 @@ use denote.Triple.Spec.{Meets, tripleOf}
 use denote.Triple.Statement.{Contract, Triple}
 use denote.Triple.Table.{entered, cited}
 use denote.Triple.Walked.{says, needs, Stays, stay-none-slice, stay-slice, walkOf, Walks, ends-at, walked, goes-none-slice, goes-slice, walk-meets}
-use Rattle.number.specs.Reader.{readerAt}
-use Rattle.number.specs.declared.Reader.{Reader}
+use Rattle.reader.specs.Reader.{readerAt}
+use Rattle.reader.specs.declared.Reader.{Reader}
 use Rattle.recording.specs.declared.Turn.{Turn}
 use Rattle.codec.specs.Plain.{zeros}
 use Rattle.layout.specs.Memory.{valid}
 use Rattle.recording.proofs.Playing.{same-memory}
 use Rattle.recording.proofs.Turning.{State, state, Stepped, Moving, begun-at, ended-at, room-at, out-length, Nearer, turn-at}
 use Rattle.recording.proofs.Again.{LentAgain, lends-again, comes-back}
-use Rattle.number.proofs.Reader as T
-use Rattle.number.proofs.Reader.Laws as T′
+use Rattle.reader.proofs.Reader as T
+use Rattle.reader.proofs.Reader.Laws as T′
 use Rattle.recording.proofs.Turn as S
 use Rattle.recording.proofs.Turn.Laws as S′
-use Rattle.number.proofs.Reader.new as made
-use Rattle.number.proofs.Reader.new.Symbol as new-def
-use Rattle.number.proofs.Reader.new.Symbol.{name as #number·new}
-use Rattle.number.proofs.Reader.new.Met as new-thm
-use Rattle.number.proofs.Reader.at_end as ends
-use Rattle.number.proofs.Reader.at_end.Symbol as end-def
-use Rattle.number.proofs.Reader.at_end.Symbol.{name as #number·at-end}
-use Rattle.number.proofs.Reader.at_end.Met as end-thm
-use Rattle.number.proofs.Reader.moved_to as moved
-use Rattle.number.proofs.Reader.moved_to.Symbol as moved-def
-use Rattle.number.proofs.Reader.moved_to.Symbol.{name as #number·moved-to}
-use Rattle.number.proofs.Reader.moved_to.Met as moved-thm
+use Rattle.reader.proofs.Reader.new as made
+use Rattle.reader.proofs.Reader.new.Symbol as new-def
+use Rattle.reader.proofs.Reader.new.Symbol.{name as #reader·new}
+use Rattle.reader.proofs.Reader.new.Met as new-thm
+use Rattle.reader.proofs.Reader.at_end as ends
+use Rattle.reader.proofs.Reader.at_end.Symbol as end-def
+use Rattle.reader.proofs.Reader.at_end.Symbol.{name as #reader·at-end}
+use Rattle.reader.proofs.Reader.at_end.Met as end-thm
+use Rattle.reader.proofs.Reader.moved_to as moved
+use Rattle.reader.proofs.Reader.moved_to.Symbol as moved-def
+use Rattle.reader.proofs.Reader.moved_to.Symbol.{name as #reader·moved-to}
+use Rattle.reader.proofs.Reader.moved_to.Met as moved-thm
 use Rattle.recording.proofs.play_at as one
 use Rattle.recording.proofs.play_at.Symbol as one-def
 use Rattle.recording.proofs.play_at.Symbol.{name as #recording·play-at}
@@ -256,7 +256,7 @@ module _ {M : Type 1} (𝓤 : URA M) (H : Heap 𝓤) (A : Atoms 𝓤) (W : Given
       -- [what mem owns; what out owns; what the slice owns]
       nothing ! $ move ! (2 ∷ 0 ∷ []) $ fjoin ! $ move ! (2 ∷ 0 ∷ []) $ fjoin ! $ move ! (1 ∷ 0 ∷ []) $ fjoin ! $ owned ! usize (Is usize) (uint-makes 𝓤 H A W w64) (d .place) _ (refl, fits) $ move ! (1 ∷ 0 ∷ []) $ done !
 
-  module _ (𝓣 : Tables 𝓤 H) (known-new : Triple 𝓤 (𝓣 .C #number·new) (New 𝓤 H A mem run)) (known-end : Triple 𝓤 (𝓣 .C #number·at-end) (End 𝓤 H A mem run)) (known-one : Triple 𝓤 (𝓣 .C #recording·play-at) (One 𝓤 H A mem run)) (known-moved : Triple 𝓤 (𝓣 .C #number·moved-to) (Moved 𝓤 H A mem run)) where
+  module _ (𝓣 : Tables 𝓤 H) (known-new : Triple 𝓤 (𝓣 .C #reader·new) (New 𝓤 H A mem run)) (known-end : Triple 𝓤 (𝓣 .C #reader·at-end) (End 𝓤 H A mem run)) (known-one : Triple 𝓤 (𝓣 .C #recording·play-at) (One 𝓤 H A mem run)) (known-moved : Triple 𝓤 (𝓣 .C #reader·moved-to) (Moved 𝓤 H A mem run)) where
     abbrev C : Calls 𝓤 H
     C = 𝓣 .C
 
@@ -447,7 +447,7 @@ module _ {M : Type 1} (𝓤 : URA M) (H : Heap 𝓤) (A : Atoms 𝓤) (W : Given
         pass1 ! (init ! 28 refl (tt, (tt, (record { fits = room₁ .0 }, tt)))) $ pass1 ! (init ! 26 refl (shr-slice-lawful 𝓤 H A W (named 1) κ u8 .typed s (v ∷ []) p .0)) $ pass1 ! (init ! 24 refl (tt, (tt, (record { fits = room₂ .0 }, tt)))) $ pass0 ! $ by ! (begins l₀ l₁ l₂ l₃ l₄ l₅ l₆ l₇ l₈ l₉ l₁₀ l₁₁ l₁₂ l₁₃ l₁₄ l₁₅)))))))))))))))))
 
 module _ {M : Type 1} (𝓤 : URA M) (H : Heap 𝓤) (A : Atoms 𝓤) (W : Given 𝓤 H A) (mem : Memory → SProp 𝓤) (run : Routine → Fun 𝓤) (𝓣 : Tables 𝓤 H)
-    (known-new : Triple 𝓤 (𝓣 .C #number·new) (New 𝓤 H A mem run)) (known-end : Triple 𝓤 (𝓣 .C #number·at-end) (End 𝓤 H A mem run)) (known-one : Triple 𝓤 (𝓣 .C #recording·play-at) (One 𝓤 H A mem run)) (known-moved : Triple 𝓤 (𝓣 .C #number·moved-to) (Moved 𝓤 H A mem run)) where
+    (known-new : Triple 𝓤 (𝓣 .C #reader·new) (New 𝓤 H A mem run)) (known-end : Triple 𝓤 (𝓣 .C #reader·at-end) (End 𝓤 H A mem run)) (known-one : Triple 𝓤 (𝓣 .C #recording·play-at) (One 𝓤 H A mem run)) (known-moved : Triple 𝓤 (𝓣 .C #reader·moved-to) (Moved 𝓤 H A mem run)) where
   play-all-walks : Walks 𝓤 H A f.ended stayed (WpFn 𝓤 H (𝓣 .C) (𝓣 .Λ) function) (f.clauses 𝓤 H A mem run)
   play-all-walks = walked 𝓤 H A f.ended stayed (f.clauses 𝓤 H A mem run) (WpFn 𝓤 H (𝓣 .C) (𝓣 .Λ) function) (λ κs. (slice-vals, (slice-vals, (slice-vals, tt)))) (λ κs. (mut-slice-tells (named 0) (κs .0) u8, (shr-slice-tells (named 1) (κs .1 .0) u8, (mut-slice-tells (named 2) (κs .1 .1 .0) u8, tt))))
       (λ κs qs bounds a g are. needs 𝓤 _ _ (λ ok.
@@ -464,7 +464,7 @@ play-all-spec 𝓤 H 𝓜 𝓖 𝓡 =
     entered 𝓤 H (tripleOf 𝓤 H (𝓖 .A) f.signature (f.spec 𝓤 H (𝓖 .A) (𝓜 .mem) (𝓡 .run)))
     (tables 𝓤 H 𝓜 𝓡 code.env .C) (tables 𝓤 H 𝓜 𝓡 code.env .Λ) #recording·play-all code.function (code.unfolded 𝓤 H 𝓜 𝓡)
     (play-all-meets 𝓤 H (𝓖 .A) (givenOf 𝓤 H 𝓜 𝓖) (𝓜 .mem) (𝓡 .run) (tablesOf 𝓤 H 𝓜 (tables 𝓤 H 𝓜 𝓡 code.env))
-    (cited 𝓤 H (New 𝓤 H (𝓖 .A) (𝓜 .mem) (𝓡 .run)) 𝓜 𝓡 code.env #number·new new-def.routine code.calls-number·Reader·new (new-thm.met 𝓤 H 𝓜 𝓖 𝓡))
-    (cited 𝓤 H (End 𝓤 H (𝓖 .A) (𝓜 .mem) (𝓡 .run)) 𝓜 𝓡 code.env #number·at-end end-def.routine code.calls-number·Reader·at-end (end-thm.met 𝓤 H 𝓜 𝓖 𝓡))
+    (cited 𝓤 H (New 𝓤 H (𝓖 .A) (𝓜 .mem) (𝓡 .run)) 𝓜 𝓡 code.env #reader·new new-def.routine code.calls-reader·Reader·new (new-thm.met 𝓤 H 𝓜 𝓖 𝓡))
+    (cited 𝓤 H (End 𝓤 H (𝓖 .A) (𝓜 .mem) (𝓡 .run)) 𝓜 𝓡 code.env #reader·at-end end-def.routine code.calls-reader·Reader·at-end (end-thm.met 𝓤 H 𝓜 𝓖 𝓡))
     (cited 𝓤 H (One 𝓤 H (𝓖 .A) (𝓜 .mem) (𝓡 .run)) 𝓜 𝓡 code.env #recording·play-at one-def.routine code.calls-recording·play-at (one-thm.met 𝓤 H 𝓜 𝓖 𝓡))
-    (cited 𝓤 H (Moved 𝓤 H (𝓖 .A) (𝓜 .mem) (𝓡 .run)) 𝓜 𝓡 code.env #number·moved-to moved-def.routine code.calls-number·Reader·moved-to (moved-thm.met 𝓤 H 𝓜 𝓖 𝓡)))
+    (cited 𝓤 H (Moved 𝓤 H (𝓖 .A) (𝓜 .mem) (𝓡 .run)) 𝓜 𝓡 code.env #reader·moved-to moved-def.routine code.calls-reader·Reader·moved-to (moved-thm.met 𝓤 H 𝓜 𝓖 𝓡)))

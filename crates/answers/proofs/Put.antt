@@ -10,8 +10,8 @@ use borrow.Rule.Slice.PartMut.{putMid, midOf}
 use Rattle.number.specs.Number.{bytesOf}
 use Rattle.number.specs.Place.{Written}
 use Rattle.number.proofs.Laws.{written-short}
-use Rattle.recording.specs.Output.{onDone, numbered, counted}
-use Rattle.recording.specs.Step.{Put}
+use Rattle.answers.specs.Output.{onDone, numbered, counted}
+use Rattle.answers.specs.Put.{Put}
 
 -- a number
 pub put-number : (b after : List ℕ) (at v n : ℕ) → Written b at v n after → Put b at (bytesOf v) n after

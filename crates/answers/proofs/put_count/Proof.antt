@@ -1,10 +1,10 @@
--- `recording::put_count` meets its contract. Assumes nothing.
+-- `answers::put_count` meets its contract. Assumes nothing.
 use native.Mathlib.Omega.{arith}
 use denote.Ref.{now}
-use Rattle.recording.proofs.Writing.{number-fits, second-fits, put-counted}
+use Rattle.answers.proofs.Put.{number-fits, second-fits, put-counted}
 use borrow.Author.Needs.{needs}
-use Rattle.recording.proofs.put_count.Statement.{statement}
-use Rattle.recording.proofs.put_count.Tie as tie
+use Rattle.answers.proofs.put_count.Statement.{statement}
+use Rattle.answers.proofs.put_count.Tie as tie
 
 put-number-requires : tie.Need-put-number-requires
 put-number-requires c κs = number-fits (now (c .before .before .args .out)) (c .before .before .args .at) (c .before .before .args .code) (omega arith)
