@@ -4,6 +4,7 @@ use mathlib.Core.List.{List, [], _++_}
 use lib.Dec.{eqb}
 use lib.ListN.{take}
 use Rattle.codec.specs.Plain.{if_then_else_}
+use Rattle.limits.specs.Limits.{recordSize}
 use Rattle.number.specs.Number.{bytesOf}
 use Rattle.machine.specs.Channel.{Call, disconnect, startFilter, stopFilter, startPeriodic, stopPeriodic, write, read, takeNext, sent, clear, getParameter, setParameter, Answer}
 use Rattle.machine.specs.Device.{Event, connect, call, frame, advance, close}
@@ -21,8 +22,8 @@ afterCall (stopFilter n) a = []
 afterCall (startPeriodic m i) a = onDone (a .code) (bytesOf (a .value))
 afterCall (stopPeriodic n) a = []
 afterCall (write n b) a = bytesOf (a .value)
-afterCall (read n b) a = bytesOf (a .value) ++ take (36 * a .value) (a .buffer)
-afterCall (takeNext b) a = onDone (a .code) (take 36 (a .buffer))
+afterCall (read n b) a = bytesOf (a .value) ++ take (recordSize * a .value) (a .buffer)
+afterCall (takeNext b) a = onDone (a .code) (take recordSize (a .buffer))
 afterCall sent a = []
 afterCall (clear k) a = []
 afterCall (getParameter p) a = onDone (a .code) (bytesOf (a .value))

@@ -11,14 +11,14 @@ use Rattle.machine.specs.Device.{powerOn}
 use Rattle.machine.specs.Device as machine
 use Rattle.layout.specs.Memory.{load, valid}
 use Rattle.number.proofs.Laws.{written-short}
+use Rattle.limits.specs.Limits.{perByte, beyond, memorySize}
 use Rattle.events.specs.Events.{readEvent}
 use Rattle.events.proofs.Ending.{event-ends}
-use Rattle.layout.specs.Reach.{Bytes}
-use Rattle.number.specs.Place.{Written}
+use Rattle.layout.proofs.Calls.{Known}
 use Rattle.answers.specs.Put.{Put}
-use Rattle.recording.specs.Step.{Answered, TurnedAs, Turned}
+use Rattle.playing.specs.Step.{TurnedAs, Turned}
 use Rattle.recording.specs.Replay.{played}
-use Rattle.recording.proofs.Room.{held, one-at-least}
+use Rattle.playing.proofs.Room.{held, one-at-least}
 use Rattle.recording.proofs.Playing.{Playing, from-zeros, same-output, room-left, ended, stopped, goes-on}
 
 -- the device memory, the output, the place in the recording and in the output
@@ -31,35 +31,35 @@ pub record State : Type 0 where
 abbrev pub state : List ℕ → List ℕ → ℕ → ℕ → State
 state m o i p = record { mem = m; out = o; at = i; place = p }
 
-abbrev pub Stepped : List ℕ → State → State → Type 0
-Stepped s d d′ = Turned s (d .at) (d .mem) (d .out) (d .place) (d′ .at) (d′ .place) (d′ .mem) (d′ .out)
+abbrev pub Stepped : List ℕ → List ℕ → State → State → Type 0
+Stepped rates s d d′ = Turned rates s (d .at) (d .mem) (d .out) (d .place) (d′ .at) (d′ .place) (d′ .mem) (d′ .out)
 
 -- `left` bytes lie before the reader. `o₀` is the output as it was
-pub record Moving (s o₀ : List ℕ) (left : ℕ) (d : State) : Type 0 where
+pub record Moving (rates s o₀ : List ℕ) (left : ℕ) (d : State) : Type 0 where
   pub place-is : d .at + left ≡ length s
-  pub playing : Playing s o₀ (d .mem) (d .out) (d .at) (d .place)
+  pub playing : Playing rates s o₀ (d .mem) (d .out) (d .at) (d .place)
 
-pub begun-at : (s m o : List ℕ) → m ≡ zeros 9996 → Moving s o (length s) (state m o 0 0)
-begun-at s m o e = record { place-is = omega arith; playing = from-zeros s o m e }
+pub begun-at : (rates s m o : List ℕ) → m ≡ zeros memorySize → Moving rates s o (length s) (state m o 0 0)
+begun-at rates s m o e = record { place-is = omega arith; playing = from-zeros rates s o m e }
 
-module _ {s o₀ : List ℕ} (big : 19 * length s + 2306 ≤ length o₀) where
-  pub ended-at : {d : State} → Moving s o₀ 0 d → Put o₀ 0 (played (length s) powerOn s 0) (d .place) (d .out)
+module _ {rates s o₀ : List ℕ} (big : perByte * length s + beyond ≤ length o₀) where
+  pub ended-at : {d : State} → Moving rates s o₀ 0 d → Put o₀ 0 (played rates (length s) powerOn s 0) (d .place) (d .out)
   ended-at p = let e = p .place-is in ended (p .playing) big (omega arith)
 
-  pub room-at : {left : ℕ} {d : State} → Moving s o₀ left d → d .place + 2306 ≤ length (d .out)
+  pub room-at : {left : ℕ} {d : State} → Moving rates s o₀ left d → d .place + beyond ≤ length (d .out)
   room-at p = room-left (p .playing) big
 
-  pub out-length : {left : ℕ} {d : State} → Moving s o₀ left d → length (d .out) ≡ length o₀
+  pub out-length : {left : ℕ} {d : State} → Moving rates s o₀ left d → length (d .out) ≡ length o₀
   out-length p = same-output (p .playing) big
 
 -- a turn takes the reader nearer to the end
-pub record Nearer (s o₀ : List ℕ) (left : ℕ) (d′ : State) : Type 0 where
+pub record Nearer (rates s o₀ : List ℕ) (left : ℕ) (d′ : State) : Type 0 where
   pub left′ : ℕ
   pub fewer : left′ < left
-  pub moving : Moving s o₀ left′ d′
+  pub moving : Moving rates s o₀ left′ d′
 
-module _ {s o₀ : List ℕ} (big : 19 * length s + 2306 ≤ length o₀) {left : ℕ} {d d′ : State} (p : Moving s o₀ left d) (more : 0 < left) where
-  turned : (x : Option (machine.Event × ℕ)) → readEvent s (d .at) ≡ x → TurnedAs x s (d .mem) (d .out) (d .place) (d′ .at) (d′ .place) (d′ .mem) (d′ .out) → Nearer s o₀ left d′
+module _ {rates s o₀ : List ℕ} (known : Known rates) (big : perByte * length s + beyond ≤ length o₀) {left : ℕ} {d d′ : State} (p : Moving rates s o₀ left d) (more : 0 < left) where
+  turned : (x : Option (machine.Event × ℕ)) → readEvent s (d .at) ≡ x → TurnedAs rates x s (d .mem) (d .out) (d .place) (d′ .at) (d′ .place) (d′ .mem) (d′ .out) → Nearer rates s o₀ left d′
   unfolding TurnedAs played
   turned none e w =
       let f = p .place-is in
@@ -76,11 +76,11 @@ module _ {s o₀ : List ℕ} (big : 19 * length s + 2306 ≤ length o₀) {left 
           playing = record {
             ok = subst (λ (x : List ℕ). T (valid x)) (sym same) (g .ok);
             inside = omega arith;
-            bytes = played (length s) powerOn s 0;
+            bytes = played rates (length s) powerOn s 0;
             written = stopped g big here e (w .2);
             turns = 0;
             enough = omega arith;
-            right = append-nil (played (length s) powerOn s 0);
+            right = append-nil (played rates (length s) powerOn s 0);
             room = rw (same, at-end) (omega (arith, w .2 .ends, written-short 255));
           };
         };
@@ -95,19 +95,9 @@ module _ {s o₀ : List ℕ} (big : 19 * length s + 2306 ≤ length o₀) {left 
       record {
         left′ = length s - d′ .at;
         fewer = omega (arith, ends .0, ends .1);
-        moving = record { place-is = omega (arith, ends .1); playing = subst (λ (k : ℕ). Playing s o₀ (d′ .mem) (d′ .out) k (d′ .place)) (sym next) (goes-on g big here e (w .1) (w .2)) };
+        moving = record { place-is = omega (arith, ends .1); playing = subst (λ (k : ℕ). Playing rates s o₀ (d′ .mem) (d′ .out) k (d′ .place)) (sym next) (goes-on g big known here e (w .1) (w .2)) };
       }
 
-  pub turn-at : Stepped s d d′ → Nearer s o₀ left d′
+  pub turn-at : Stepped rates s d d′ → Nearer rates s o₀ left d′
   unfolding Turned
   turn-at w = turned (readEvent s (d .at)) refl w
-
--- how a turn is said
-module _ (s : List ℕ) (at : ℕ) (m : List ℕ) where
-  pub turned-bad : {buffer buffer′ : List ℕ} {place place′ : ℕ} → readEvent s at ≡ none → Written buffer place 255 place′ buffer′ → Turned s at m buffer place (length s) place′ m buffer′
-  unfolding Turned TurnedAs
-  turned-bad {buffer} {buffer′} {place} {place′} q w = subst (λ (x : Option (machine.Event × ℕ)). TurnedAs x s m buffer place (length s) place′ m buffer′) (sym q) (refl, refl, w)
-
-  pub turned-good : {e : machine.Event} {buffer m′ buffer′ : List ℕ} {place next place′ : ℕ} → readEvent s at ≡ some (e, next) → Bytes e → Answered e m buffer place place′ m′ buffer′ → Turned s at m buffer place next place′ m′ buffer′
-  unfolding Turned TurnedAs
-  turned-good {e} {buffer} {m′} {buffer′} {place} {next} {place′} q b a = subst (λ (x : Option (machine.Event × ℕ)). TurnedAs x s m buffer place next place′ m′ buffer′) (sym q) (refl, b, a)

@@ -47,9 +47,10 @@ use denote.Triple.Spec.{Meets, tripleOf}
 use denote.Triple.Statement.{Contract, Triple}
 use denote.Triple.Table.{entered, cited}
 use denote.Triple.Walked.{says, needs, Stays, stay-none-slice, stay-slice, walkOf, Walks, ends-at, walked, goes-none-slice, goes-slice, walk-meets}
+use Rattle.machine.specs.Codes.{threeRates}
 use Rattle.reader.specs.Reader.{readerAt}
 use Rattle.reader.specs.declared.Reader.{Reader}
-use Rattle.recording.specs.declared.Turn.{Turn}
+use Rattle.playing.specs.declared.Turn.{Turn}
 use Rattle.codec.specs.Plain.{zeros}
 use Rattle.layout.specs.Memory.{valid}
 use Rattle.recording.proofs.Playing.{same-memory}
@@ -57,8 +58,8 @@ use Rattle.recording.proofs.Turning.{State, state, Stepped, Moving, beg
 use Rattle.recording.proofs.Again.{LentAgain, lends-again, comes-back}
 use Rattle.reader.proofs.Reader as T
 use Rattle.reader.proofs.Reader.Laws as T′
-use Rattle.recording.proofs.Turn as S
-use Rattle.recording.proofs.Turn.Laws as S′
+use Rattle.playing.proofs.Turn as S
+use Rattle.playing.proofs.Turn.Laws as S′
 use Rattle.reader.proofs.Reader.new as made
 use Rattle.reader.proofs.Reader.new.Symbol as new-def
 use Rattle.reader.proofs.Reader.new.Symbol.{name as #reader·new}
@@ -71,10 +72,10 @@ use Rattle.reader.proofs.Reader.moved_to as moved
 use Rattle.reader.proofs.Reader.moved_to.Symbol as moved-def
 use Rattle.reader.proofs.Reader.moved_to.Symbol.{name as #reader·moved-to}
 use Rattle.reader.proofs.Reader.moved_to.Met as moved-thm
-use Rattle.recording.proofs.play_at as one
-use Rattle.recording.proofs.play_at.Symbol as one-def
-use Rattle.recording.proofs.play_at.Symbol.{name as #recording·play-at}
-use Rattle.recording.proofs.play_at.Met as one-thm
+use Rattle.playing.proofs.play_at as one
+use Rattle.playing.proofs.play_at.Symbol as one-def
+use Rattle.playing.proofs.play_at.Symbol.{name as #playing·play-at}
+use Rattle.playing.proofs.play_at.Met as one-thm
 use Rattle.recording.proofs.play_all.Key.{name as #recording·play-all}
 use Rattle.recording.proofs.play_all as f
 use Rattle.recording.proofs.play_all.Statement as stated
@@ -247,7 +248,7 @@ module _ {M : Type 1} (𝓤 : URA M) (H : Heap 𝓤) (A : Atoms 𝓤) (W : Given
     goes-one : Holds (valid (d .mem)) × (d .place + 2306 ≤ length (d .out)) → ent 𝓤 (⋆ 𝓤 H A (Toks ∷ ‵ one-owns ∷ [])) (One 𝓤 H A mem run .pre to-one)
     goes-one needed = qed W (Toks ∷ ‵ one-owns ∷ []) ∵ says ! needed $ frame ! $ done !
 
-  exits : (d : State) → Moving (now s) o₀ 0 d → d .place < 2 ^ 64 → ent 𝓤 (⋆ 𝓤 H A (MemAt (d .mem) (length (d .mem)) ∷ ‵ (flft κ₁ q₁) ∷ OutAt (d .out) (length (d .out)) ∷ ‵ (flft κ₂ q₂) ∷ Token ∷ ‵ Own ∷ [])) (Post (vint w64 (d .place)))
+  exits : (d : State) → Moving threeRates (now s) o₀ 0 d → d .place < 2 ^ 64 → ent 𝓤 (⋆ 𝓤 H A (MemAt (d .mem) (length (d .mem)) ∷ ‵ (flft κ₁ q₁) ∷ OutAt (d .out) (length (d .out)) ∷ ‵ (flft κ₂ q₂) ∷ Token ∷ ‵ Own ∷ [])) (Post (vint w64 (d .place)))
   exits d p fits =
       qed W (MemAt (d .mem) (length (d .mem)) ∷ ‵ (flft κ₁ q₁) ∷ OutAt (d .out) (length (d .out)) ∷ ‵ (flft κ₂ q₂) ∷ Token ∷ ‵ Own ∷ []) ∵
       suffices ! _ (ends-at 𝓤 H A f.ended stayed (f.clauses 𝓤 H A mem run) W (((κ₁, (κ, (κ₂, tt))), (q₁, (q, (q₂, tt))), tt, a, vals), tt) (vint w64 (d .place)) (d .place) (d .mem, (tt, (d .out, tt))) (same-memory m₀ (p .playing) (ok .0), (tt, (out-length (ok .1) p, tt)))) $ says ! (ended-at (ok .1) p) $
@@ -256,7 +257,7 @@ module _ {M : Type 1} (𝓤 : URA M) (H : Heap 𝓤) (A : Atoms 𝓤) (W : Given
       -- [what mem owns; what out owns; what the slice owns]
       nothing ! $ move ! (2 ∷ 0 ∷ []) $ fjoin ! $ move ! (2 ∷ 0 ∷ []) $ fjoin ! $ move ! (1 ∷ 0 ∷ []) $ fjoin ! $ owned ! usize (Is usize) (uint-makes 𝓤 H A W w64) (d .place) _ (refl, fits) $ move ! (1 ∷ 0 ∷ []) $ done !
 
-  module _ (𝓣 : Tables 𝓤 H) (known-new : Triple 𝓤 (𝓣 .C #reader·new) (New 𝓤 H A mem run)) (known-end : Triple 𝓤 (𝓣 .C #reader·at-end) (End 𝓤 H A mem run)) (known-one : Triple 𝓤 (𝓣 .C #recording·play-at) (One 𝓤 H A mem run)) (known-moved : Triple 𝓤 (𝓣 .C #reader·moved-to) (Moved 𝓤 H A mem run)) where
+  module _ (𝓣 : Tables 𝓤 H) (known-new : Triple 𝓤 (𝓣 .C #reader·new) (New 𝓤 H A mem run)) (known-end : Triple 𝓤 (𝓣 .C #reader·at-end) (End 𝓤 H A mem run)) (known-one : Triple 𝓤 (𝓣 .C #playing·play-at) (One 𝓤 H A mem run)) (known-moved : Triple 𝓤 (𝓣 .C #reader·moved-to) (Moved 𝓤 H A mem run)) where
     abbrev C : Calls 𝓤 H
     C = 𝓣 .C
 
@@ -275,7 +276,7 @@ module _ {M : Type 1} (𝓤 : URA M) (H : Heap 𝓤) (A : Atoms 𝓤) (W : Given
           ∷ ‵ (fdies word l₀) ∷ ‵ (fdies mems l₁) ∷ ‵ (fdies bytes l₂) ∷ ‵ (fdies outs l₃) ∷ ‵ (fdies reader l₄) ∷ ‵ (fdies word l₅) ∷ ‵ (fdies S′.mir l₆) ∷ ‵ (fdies tyBool l₇) ∷ ‵ (fdies reader l₈) ∷ ‵ (fdies tyBool l₉) ∷ ‵ (fdies ptrE l₁₀) ∷ ‵ (fdies sliceE l₁₁) ∷ ‵ (fdies word l₁₂) ∷ ‵ (fdies ptrE l₁₃) ∷ ‵ (fdies sliceE l₁₄) ∷ ‵ (fdies reader l₁₅) ∷ []
 
       abbrev Fact : ℕ → State → Type 0
-      Fact t d = Moving (now s) o₀ t d
+      Fact t d = Moving threeRates (now s) o₀ t d
 
       -- the invariant, where t bytes lie before the reader
       abbrev Inv : ℕ → SProp 𝓤
@@ -307,7 +308,7 @@ module _ {M : Type 1} (𝓤 : URA M) (H : Heap 𝓤) (A : Atoms 𝓤) (W : Given
         asked = (p .playing .ok, room-at (ok .1) p)
 
         -- a turn that plays one number
-        more : i < n → (X : SProp 𝓤) → ((d′ : State) → Stepped (now s) d d′ → ent 𝓤 (⋆ 𝓤 H A (At d′)) X) → ent 𝓤 (⋆ 𝓤 H A (At d)) (Wp 𝓤 H C Λ En mir′.turn-1 (afterTurn 𝓤 H X Left))
+        more : i < n → (X : SProp 𝓤) → ((d′ : State) → Stepped threeRates (now s) d d′ → ent 𝓤 (⋆ 𝓤 H A (At d′)) X) → ent 𝓤 (⋆ 𝓤 H A (At d)) (Wp 𝓤 H C Λ En mir′.turn-1 (afterTurn 𝓤 H X Left))
         unfolding afterTurn
         more small X k =
             qed W (At d) ∵ exec ! C Λ En mir′.turn-1 (anyQ (afterTurn 𝓤 H X Left)) $
@@ -345,9 +346,9 @@ module _ {M : Type 1} (𝓤 : URA M) (H : Heap 𝓤) (A : Atoms 𝓤) (W : Given
             (and-then ! (load ! (from ! (stop !)) (look ! 11 refl)) (and-then ! (load ! (from ! (stop !)) (look ! 17 refl)) (and-then ! (load ! (from ! (stop !)) (look ! 12 refl)) (and-then ! (load ! (from ! (stop !)) (look ! 14 refl)) (and-then ! (load ! (from ! (stop !)) (look ! 5 refl)) (no-more !)))))) (λ u′.
             use1 W (later (some (λ (r : Turn). (Toks d ν ν′ δ δ′ ⊛ ‵ (S.the-row .own r (u′ ∷ []))) ⊛ raw (ensured 𝓤 H A one.ended (one.clauses 𝓤 H A mem run) (ν ∷ [], (κ, (ν′ ∷ [], tt))) (one-arg d ν ν′ δ δ′) tt r)))) (id⊢ 𝓤 _) $ await ! tt $ pick ! (λ r.
             -- what `play_at` ensures, at some last lists
-            split ! $ move ! (1 ∷ []) $ use1 W (some (λ (zs : List ℕ × (Unit {0} × (Unit {0} × (List ℕ × (Unit {0} × Unit {0}))))). ‵ (lasts one.ended (ν ∷ [], (κ, (ν′ ∷ [], tt))) (one-arg d ν ν′ δ δ′) zs) ⊛ raw (fact 𝓤 (Stepped (now s) d (state (zs .0) (zs .1 .1 .1 .0) (r .next) (r .place)))))) (id⊢ 𝓤 _) $ pick ! (λ zs.
+            split ! $ move ! (1 ∷ []) $ use1 W (some (λ (zs : List ℕ × (Unit {0} × (Unit {0} × (List ℕ × (Unit {0} × Unit {0}))))). ‵ (lasts one.ended (ν ∷ [], (κ, (ν′ ∷ [], tt))) (one-arg d ν ν′ δ δ′) zs) ⊛ raw (fact 𝓤 (Stepped threeRates (now s) d (state (zs .0) (zs .1 .1 .1 .0) (r .next) (r .place)))))) (id⊢ 𝓤 _) $ pick ! (λ zs.
             let d′ : State = state (zs .0) (zs .1 .1 .1 .0) (r .next) (r .place) in
-            split ! $ move ! (1 ∷ []) $ heard ! (Stepped (now s) d d′) (λ e′. fsplit ! $ fsplit ! $ move ! (1 ∷ []) $ feqL ! (λ len. move ! (1 ∷ []) $ fsplit ! $ drop ! $ fsplit ! $ drop ! $ fsplit ! $ fsplit ! $ move ! (1 ∷ []) $ feqL ! (λ len′. move ! (1 ∷ []) $ drop ! $
+            split ! $ move ! (1 ∷ []) $ heard ! (Stepped threeRates (now s) d d′) (λ e′. fsplit ! $ fsplit ! $ move ! (1 ∷ []) $ feqL ! (λ len. move ! (1 ∷ []) $ fsplit ! $ drop ! $ fsplit ! $ drop ! $ fsplit ! $ fsplit ! $ move ! (1 ∷ []) $ feqL ! (λ len′. move ! (1 ∷ []) $ drop ! $
             -- [out's last list; mem's; the tokens and the result; what the slice owns; what is kept of out; of mem; _4; …]
             move ! (2 ∷ []) $ split ! $ move ! (1 ∷ []) $ peeks ! S.the-row (Is S.the-row) (shows 𝓤 H A S.the-row) r (u′ ∷ []) (λ is′.
             let fields = LL.owed S.the-type S′.the-laws r (u′ ∷ []) is′ in
@@ -406,7 +407,7 @@ module _ {M : Type 1} (𝓤 : URA M) (H : Heap 𝓤) (A : Atoms 𝓤) (W : Given
       turns-at (suc t) d p =
           let e = p .place-is in
           more (suc t) d p (omega arith) (Below (suc t)) (λ d′ w.
-          let near : Nearer (now s) o₀ (suc t) d′ = turn-at (ok .1) p (omega arith) w in
+          let near : Nearer threeRates (now s) o₀ (suc t) d′ = turn-at (λ r t. t) (ok .1) p (omega arith) w in
           let c : ℕ = near .left′ in
           via 𝓤 (Inv c) (inv c d′ (near .moving)) (via 𝓤 (guard 𝓤 (c < suc t) (Inv c)) (guardI 𝓤 (c < suc t) (Inv c) (near .fewer)) (exI 𝓤 (λ (u : ℕ). guard 𝓤 (u < suc t) (Inv u)) c)))
 
@@ -414,7 +415,7 @@ module _ {M : Type 1} (𝓤 : URA M) (H : Heap 𝓤) (A : Atoms 𝓤) (W : Given
       turns t = exE 𝓤 (λ (d : State). guard 𝓤 (Fact t d) (⋆ 𝓤 H A (At d))) (λ d. guardE 𝓤 (Fact t d) (⋆ 𝓤 H A (At d)) (λ p. turns-at t d p))
 
       loops : ent 𝓤 (⋆ 𝓤 H A (At (state m₀ o₀ 0 0))) (Wp 𝓤 H C Λ En (loop mir′.turn-1) Left)
-      loops = via 𝓤 (Inv n) (inv n (state m₀ o₀ 0 0) (begun-at (now s) m₀ o₀ (ok .0))) (loop-rule 𝓤 H (W .laws) 𝓣 _<_ (Nat·lt-wfRel .wf) En mir′.turn-1 Left Inv turns n)
+      loops = via 𝓤 (Inv n) (inv n (state m₀ o₀ 0 0) (begun-at threeRates (now s) m₀ o₀ (ok .0))) (loop-rule 𝓤 H (W .laws) 𝓣 _<_ (Nat·lt-wfRel .wf) En mir′.turn-1 Left Inv turns n)
 
       -- the MIR from its start: the call of `new`
       abbrev Entry : List (Item 𝓤)
@@ -447,7 +448,7 @@ module _ {M : Type 1} (𝓤 : URA M) (H : Heap 𝓤) (A : Atoms 𝓤) (W : Given
         pass1 ! (init ! 28 refl (tt, (tt, (record { fits = room₁ .0 }, tt)))) $ pass1 ! (init ! 26 refl (shr-slice-lawful 𝓤 H A W (named 1) κ u8 .typed s (v ∷ []) p .0)) $ pass1 ! (init ! 24 refl (tt, (tt, (record { fits = room₂ .0 }, tt)))) $ pass0 ! $ by ! (begins l₀ l₁ l₂ l₃ l₄ l₅ l₆ l₇ l₈ l₉ l₁₀ l₁₁ l₁₂ l₁₃ l₁₄ l₁₅)))))))))))))))))
 
 module _ {M : Type 1} (𝓤 : URA M) (H : Heap 𝓤) (A : Atoms 𝓤) (W : Given 𝓤 H A) (mem : Memory → SProp 𝓤) (run : Routine → Fun 𝓤) (𝓣 : Tables 𝓤 H)
-    (known-new : Triple 𝓤 (𝓣 .C #reader·new) (New 𝓤 H A mem run)) (known-end : Triple 𝓤 (𝓣 .C #reader·at-end) (End 𝓤 H A mem run)) (known-one : Triple 𝓤 (𝓣 .C #recording·play-at) (One 𝓤 H A mem run)) (known-moved : Triple 𝓤 (𝓣 .C #reader·moved-to) (Moved 𝓤 H A mem run)) where
+    (known-new : Triple 𝓤 (𝓣 .C #reader·new) (New 𝓤 H A mem run)) (known-end : Triple 𝓤 (𝓣 .C #reader·at-end) (End 𝓤 H A mem run)) (known-one : Triple 𝓤 (𝓣 .C #playing·play-at) (One 𝓤 H A mem run)) (known-moved : Triple 𝓤 (𝓣 .C #reader·moved-to) (Moved 𝓤 H A mem run)) where
   play-all-walks : Walks 𝓤 H A f.ended stayed (WpFn 𝓤 H (𝓣 .C) (𝓣 .Λ) function) (f.clauses 𝓤 H A mem run)
   play-all-walks = walked 𝓤 H A f.ended stayed (f.clauses 𝓤 H A mem run) (WpFn 𝓤 H (𝓣 .C) (𝓣 .Λ) function) (λ κs. (slice-vals, (slice-vals, (slice-vals, tt)))) (λ κs. (mut-slice-tells (named 0) (κs .0) u8, (shr-slice-tells (named 1) (κs .1 .0) u8, (mut-slice-tells (named 2) (κs .1 .1 .0) u8, tt))))
       (λ κs qs bounds a g are. needs 𝓤 _ _ (λ ok.
@@ -466,5 +467,5 @@ play-all-spec 𝓤 H 𝓜 𝓖 𝓡 =
     (play-all-meets 𝓤 H (𝓖 .A) (givenOf 𝓤 H 𝓜 𝓖) (𝓜 .mem) (𝓡 .run) (tablesOf 𝓤 H 𝓜 (tables 𝓤 H 𝓜 𝓡 code.env))
     (cited 𝓤 H (New 𝓤 H (𝓖 .A) (𝓜 .mem) (𝓡 .run)) 𝓜 𝓡 code.env #reader·new new-def.routine code.calls-reader·Reader·new (new-thm.met 𝓤 H 𝓜 𝓖 𝓡))
     (cited 𝓤 H (End 𝓤 H (𝓖 .A) (𝓜 .mem) (𝓡 .run)) 𝓜 𝓡 code.env #reader·at-end end-def.routine code.calls-reader·Reader·at-end (end-thm.met 𝓤 H 𝓜 𝓖 𝓡))
-    (cited 𝓤 H (One 𝓤 H (𝓖 .A) (𝓜 .mem) (𝓡 .run)) 𝓜 𝓡 code.env #recording·play-at one-def.routine code.calls-recording·play-at (one-thm.met 𝓤 H 𝓜 𝓖 𝓡))
+    (cited 𝓤 H (One 𝓤 H (𝓖 .A) (𝓜 .mem) (𝓡 .run)) 𝓜 𝓡 code.env #playing·play-at one-def.routine code.calls-playing·play-at (one-thm.met 𝓤 H 𝓜 𝓖 𝓡))
     (cited 𝓤 H (Moved 𝓤 H (𝓖 .A) (𝓜 .mem) (𝓡 .run)) 𝓜 𝓡 code.env #reader·moved-to moved-def.routine code.calls-reader·Reader·moved-to (moved-thm.met 𝓤 H 𝓜 𝓖 𝓡)))
