@@ -1,6 +1,5 @@
--- What it is for a promise to leave no choice. Assumes nothing.
+-- ANY TWO OUTCOMES ARE EQUAL: whatever meets a promise is one value. Assumes nothing.
 use mathlib.Core.Path.{_≡_}
 
--- ANY TWO OUTCOMES ARE EQUAL: whatever meets a promise is one value
 abbrev pub Settled : {A : Type 0} → (A → Type 0) → Type 0
 Settled {A} promised = (x y : A) → promised x → promised y → x ≡ y

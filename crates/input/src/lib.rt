@@ -1,12 +1,14 @@
 // A recording from standard input or a file, and room for its answers.
 ghost use mathlib.Core.Path.{_≡_};
+ghost use Prim.Native.Nat.{_+_, _*_};
 ghost use lib.ListN.{length, take};
+ghost use Rattle.limits.specs.Limits.{longest, perByte, beyond};
 
 // One byte more than a recording may have: it tells an overlong one, and nothing past it is read.
-pub const READ: usize = 32769;
+pub const READ: usize = limits::LONGEST + 1;
 
-// What a buffer has to have for the answers of any recording: 19 bytes for each of its 32,768, and 2,306 more.
-pub const ROOM: usize = 624898;
+// What a buffer has to have for the answers of any recording.
+pub const ROOM: usize = limits::PER_BYTE * limits::LONGEST + limits::BEYOND;
 
 // Where one read more leaves the input: so many bytes are there, or it has ended, or it could not be read.
 enum Input {
@@ -60,7 +62,7 @@ pub fn first(bytes: &[u8], n: usize) -> &[u8]
 
 // Room for the answers of any recording.
 pub fn room() -> [u8; ROOM]
-    ensures { λ r. ⌜ 624898 ≡ length r ⌝ }
+    ensures { λ r. ⌜ perByte * longest + beyond ≡ length r ⌝ }
 {
     [0; ROOM]
 }

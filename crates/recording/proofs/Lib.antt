@@ -1,7 +1,6 @@
 -- The laws that proofs here and in other crates cite. Assumes nothing.
-pub mod Room
-pub mod Lent
-pub mod Writing
-pub mod Answers
 pub mod Playing
+pub mod Turning
+pub mod Again
 pub mod Whole
+pub mod Unique

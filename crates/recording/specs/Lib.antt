@@ -1,4 +1,2 @@
 -- What a replay writes, and what the contracts of this crate cite. Assumes nothing.
-pub mod Output
 pub mod Replay
-pub mod Step

@@ -6,37 +6,38 @@ use mathlib.Core.Option.{Option, none, some}
 use lib.Dec.{leb, ltb}
 use lib.ListN.{length, drop}
 use Rattle.codec.specs.Plain.{if_then_else_}
+use Rattle.limits.specs.Limits.{longest, perByte, beyond, badNumber, badSize}
 use Rattle.number.specs.Number.{bytesOf}
 use Rattle.machine.specs.Codes.{threeRates}
 use Rattle.machine.specs.Device.{Device, powerOn, Event, step}
 use Rattle.events.specs.Events.{readEvent}
-use Rattle.recording.specs.Output.{answerBytes}
+use Rattle.answers.specs.Output.{answerBytes}
 
 -- a bad event writes the number 255
 unfoldable pub badEvent : List ℕ
-badEvent = bytesOf 255
+badEvent = bytesOf badNumber
 
 -- what is written for what was read: the answer and what comes after it; where the event is bad, that it is
-unfoldable pub replies : Option (Event × ℕ) → Device → (Device → ℕ → List ℕ) → List ℕ
-replies none d more = badEvent
-replies (some r) d more = answerBytes (r .0) (step threeRates d (r .0) .1) ++ more (step threeRates d (r .0) .0) (r .1)
+unfoldable pub replies : List ℕ → Option (Event × ℕ) → Device → (Device → ℕ → List ℕ) → List ℕ
+replies rates none d more = badEvent
+replies rates (some r) d more = answerBytes (r .0) (step rates d (r .0) .1) ++ more (step rates d (r .0) .0) (r .1)
 
 -- the answers from a place on, event by event, to the end of the recording or a bad event. Each event has a byte or more, so that as many turns
 -- as there are bytes are enough
-unfoldable pub played : ℕ → Device → List ℕ → ℕ → List ℕ
-played zero d recording at = []
-played (suc turns) d recording at =
-    if leb (length recording) at then [] else replies (readEvent recording at) d (λ e next. played turns e recording next)
+unfoldable pub played : List ℕ → ℕ → Device → List ℕ → ℕ → List ℕ
+played rates zero d recording at = []
+played rates (suc turns) d recording at =
+    if leb (length recording) at then [] else replies rates (readEvent recording at) d (λ e next. played rates turns e recording next)
 
--- THE OUTPUT, from power-on. A recording of more than 32,768 bytes counts as a bad event
-unfoldable pub output : List ℕ → List ℕ
-output recording = if ltb 32768 (length recording) then badEvent else played (length recording) powerOn recording 0
+-- THE OUTPUT, from power-on, with a set of rates. A recording of more than 32,768 bytes counts as a bad event
+unfoldable pub output : List ℕ → List ℕ → List ℕ
+output rates recording = if ltb longest (length recording) then badEvent else played rates (length recording) powerOn recording 0
 
 -- ---- into a lent buffer
 
 -- the bytes that the buffer has to have: 19 for each of the recording's, and what a read of 64 records lends
 unfoldable pub roomFor : List ℕ → ℕ
-roomFor recording = if ltb 32768 (length recording) then 2 else 19 * length recording + 2306
+roomFor recording = if ltb longest (length recording) then badSize else perByte * length recording + beyond
 
 -- the code, the length of the output, and the buffer as the replay leaves it
 pub record Replayed : Type 0 where
@@ -51,4 +52,4 @@ leaves c n b = record { code = c; size = n; buffer = b }
 unfoldable pub replayed : List ℕ → List ℕ → Replayed
 replayed recording buffer =
     if ltb (length buffer) (roomFor recording) then leaves 0x04 0 buffer
-    else leaves 0x00 (length (output recording)) (output recording ++ drop (length (output recording)) buffer)
+    else leaves 0x00 (length (output threeRates recording)) (output threeRates recording ++ drop (length (output threeRates recording)) buffer)

@@ -1,38 +1,104 @@
 // Shows the recording on standard input in words: each event, what a device answers to it from power-on, and the records of both.
-mod answered;
-mod asked;
-mod words;
-
+use codes::Answer;
 use device::MEMORY;
+use events::Event;
 use events::Found;
+use events::Giving;
+use events::Plain;
 use libc::STDOUT_FILENO;
+use words::part;
 use words::text;
 
-// Spaces before a number, so that numbers of up to five digits end in one column.
-fn indent(n: usize) {
-    if n < 10 {
-        text(b"    ");
-    } else if n < 100 {
-        text(b"   ");
-    } else if n < 1000 {
-        text(b"  ");
-    } else if n < 10000 {
-        text(b" ");
+// The code of an event that is answered by its code alone.
+fn plain_code(memory: &mut [u8; MEMORY], recording: &[u8], e: Plain) -> u32 {
+    match e {
+        Plain::Disconnect(channel) => device::disconnect(memory, channel),
+        Plain::Close => device::close(memory),
+        Plain::Advance(us) => device::advance(memory, us),
+        Plain::Frame {
+            line,
+            wide,
+            id,
+            from,
+            end,
+        } => device::frame(memory, line, wide, id, part(recording, from, end)),
+        Plain::StopFilter(channel, n) => device::stop_filter(memory, channel, n),
+        Plain::StopPeriodic(channel, n) => device::stop_periodic(memory, channel, n),
+        Plain::Sent(channel) => device::sent(memory, channel),
+        Plain::Clear(channel, kind) => device::clear(memory, channel, kind),
+        Plain::Set(channel, parameter, value) => device::set(memory, channel, parameter, value),
     }
 }
 
-// The number of a line.
-fn line(n: usize) {
-    indent(n);
-    io::print_decimal(STDOUT_FILENO, n as u64);
-    text(b"  ");
+// The answer to an event that is answered by a number too.
+fn answer(memory: &mut [u8; MEMORY], recording: &[u8], e: Giving) -> Answer {
+    match e {
+        Giving::Connect(line, protocol, flags, rate) => {
+            device::connect(memory, line, protocol, flags, rate)
+        }
+        Giving::StartFilter {
+            channel,
+            kind,
+            mask,
+            pattern,
+            end,
+        } => device::start_filter(
+            memory,
+            channel,
+            kind,
+            part(recording, mask, pattern),
+            part(recording, pattern, end),
+        ),
+        Giving::StartPeriodic {
+            channel,
+            from,
+            end,
+            interval,
+        } => device::start_periodic(memory, channel, part(recording, from, end), interval),
+        Giving::Get(channel, parameter) => device::get(memory, channel, parameter),
+    }
 }
 
-// A bad event, at which a replay ends.
-fn bad(at: usize) {
-    text(b"bad event at byte ");
-    io::print_decimal(STDOUT_FILENO, at as u64);
-    text(b"\n");
+// A read, its answer and the records that it gave.
+fn read(memory: &mut [u8; MEMORY], channel: u32, n: u32) {
+    let mut buffer = [0u8; limits::RECORDS];
+    telling::read(channel, n);
+    let answer = device::read(memory, channel, n, &mut buffer);
+    telling::given_records(answer, &buffer);
+}
+
+// A take, its answer and the record to send.
+fn take(memory: &mut [u8; MEMORY], channel: u32) {
+    let mut buffer = [0u8; limits::RECORD];
+    telling::take(channel);
+    let code = device::take(memory, channel, &mut buffer);
+    telling::taken(code, &buffer);
+}
+
+// An event and its answer.
+fn event(memory: &mut [u8; MEMORY], recording: &[u8], e: Event) {
+    match e {
+        Event::Code(asked) => {
+            telling::plain(recording, asked);
+            telling::coded(plain_code(memory, recording, asked));
+        }
+        Event::Number(asked) => {
+            telling::giving(asked);
+            telling::numbered(recording, asked, answer(memory, recording, asked));
+        }
+        Event::Write {
+            channel,
+            n,
+            from,
+            end,
+        } => {
+            telling::write(channel, n);
+            let list = part(recording, from, end);
+            telling::written(device::write(memory, channel, n, list), list);
+        }
+        Event::Read(channel, n) => read(memory, channel, n),
+        Event::Take(channel) => take(memory, channel),
+    }
 }
 
 // Shows the events of a recording, each with its answer, up to the end or a bad one. Each has a byte or more, so there are at most as many as bytes.
@@ -46,12 +112,12 @@ fn show(recording: &[u8]) {
         if at >= recording.len() {
             return;
         }
-        line(n);
-        let Found::Good(event, next) = events::read_event(recording, at) else {
-            bad(at);
+        words::line(n);
+        let Found::Good(e, next) = event_reader::read_event(recording, at) else {
+            words::bad(at);
             return;
         };
-        answered::event(&mut memory, recording, event);
+        event(&mut memory, recording, e);
         at = next;
     }
 }

@@ -1,0 +1,3 @@
+-- The bytes of answers, and where they were written. Assumes nothing.
+pub mod Output
+pub mod Put

@@ -1,0 +1,44 @@
+// Answers in bytes, for callers that know that there is room: a number, a code and a number, a code and a count, from a place on.
+ghost use Prim.Native.Nat.{_+_, _≤_};
+ghost use lib.ListN.{length};
+ghost use Rattle.number.specs.Number.{bytesOf};
+ghost use Rattle.number.specs.Place.{Written};
+ghost use Rattle.answers.specs.Output.{numbered, counted};
+ghost use Rattle.answers.specs.Put.{Put};
+
+// Writes a number from a place on, in as many bytes as it takes, and gives the place after them.
+pub fn put_number(out: &mut [u8], at: usize, value: u32) -> usize
+    requires { ⌜ at + length (bytesOf value) ≤ length (now out) ⌝ }
+    ensures { λ r. ⌜ Written (now (out .entry)) at value r (now (out .exit)) ⌝ }
+{
+    let mut place = at;
+    let mut rest = value;
+    while rest > 127 {
+        out[place] = (128 + rest % 128) as u8;
+        rest /= 128;
+        place += 1;
+    }
+    out[place] = rest as u8;
+    place + 1
+}
+
+// Writes a code from a place on and, where it is 0x00, the number; gives the place after them.
+pub fn put_done(out: &mut [u8], at: usize, code: u32, value: u32) -> usize
+    requires { ⌜ at + 10 ≤ length (now out) ⌝ }
+    ensures { λ r. ⌜ Put (now (out .entry)) at (numbered code value) r (now (out .exit)) ⌝ }
+{
+    let next = put_number(out, at, code);
+    if code != codes::STATUS_NOERROR {
+        return next;
+    }
+    put_number(out, next, value)
+}
+
+// Writes a code and a count from a place on; gives the place after them.
+pub fn put_count(out: &mut [u8], at: usize, code: u32, count: u32) -> usize
+    requires { ⌜ at + 10 ≤ length (now out) ⌝ }
+    ensures { λ r. ⌜ Put (now (out .entry)) at (counted code count) r (now (out .exit)) ⌝ }
+{
+    let next = put_number(out, at, code);
+    put_number(out, next, count)
+}

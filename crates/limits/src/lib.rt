@@ -1,0 +1,23 @@
+// The sizes of recordings, their records and their answers, each said once.
+
+// The most bytes of a recording.
+pub const LONGEST: usize = 32768;
+
+// A record's bytes.
+pub const RECORD: usize = places::RECORD;
+
+// The most of an n: records of a read or a write, bytes of a frame.
+pub const MOST: u32 = 64;
+
+// The bytes of as many records.
+pub const RECORDS: usize = 64 * RECORD;
+
+// The room that a buffer has for the answers to each byte of a recording, and beyond it for the code, the count and the records of one read.
+pub const PER_BYTE: usize = 19;
+
+pub const BEYOND: usize = 2 + RECORDS;
+
+// The number that stands for a bad event, and the bytes that it takes.
+pub const BAD_EVENT: u32 = 255;
+
+pub const BAD_SIZE: usize = 2;

@@ -1,0 +1,28 @@
+-- What one event of a replay leaves, with a set of rates. Assumes nothing.
+use Prim.Native.Nat.{ℕ}
+use mathlib.Core.List.{List}
+use mathlib.Core.Option.{Option, none, some}
+use mathlib.Core.Path.{_≡_}
+use lib.ListN.{length}
+use Rattle.machine.specs.Device.{Event, step}
+use Rattle.layout.specs.Memory.{image, load}
+use Rattle.layout.specs.Reach.{Bytes}
+use Rattle.limits.specs.Limits.{badNumber}
+use Rattle.number.specs.Place.{Written}
+use Rattle.events.specs.Events.{readEvent}
+use Rattle.answers.specs.Output.{answerBytes}
+use Rattle.answers.specs.Put.{Put}
+
+-- an event was answered: the memory is that of the machine's next state, and the answer was written at a place of a buffer
+pub record Answered (rates : List ℕ) (e : Event) (m buffer : List ℕ) (at next : ℕ) (m′ buffer′ : List ℕ) : Type 0 where
+  pub memory : m′ ≡ image (step rates (load m) e .0)
+  pub written : Put buffer at (answerBytes e (step rates (load m) e .1)) next buffer′
+
+-- what was read at a place was played: an event is answered, what it lends is bytes, and the replay goes on after it; where there is none, the
+-- number of a bad event is written, and the replay is at the recording's end
+unfoldable pub TurnedAs : List ℕ → Option (Event × ℕ) → List ℕ → List ℕ → List ℕ → ℕ → ℕ → ℕ → List ℕ → List ℕ → Type 0
+TurnedAs rates none s m buffer at next place m′ buffer′ = (m′ ≡ m) × (next ≡ length s) × Written buffer at badNumber place buffer′
+TurnedAs rates (some r) s m buffer at next place m′ buffer′ = (next ≡ r .1) × Bytes (r .0) × Answered rates (r .0) m buffer at place m′ buffer′
+
+unfoldable pub Turned : List ℕ → List ℕ → ℕ → List ℕ → List ℕ → ℕ → ℕ → ℕ → List ℕ → List ℕ → Type 0
+Turned rates s at m buffer place next place′ m′ buffer′ = TurnedAs rates (readEvent s at) s m buffer place next place′ m′ buffer′

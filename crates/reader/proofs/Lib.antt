@@ -1,0 +1,2 @@
+-- What is proved of the promises of this crate. Assumes nothing.
+pub mod Unique
