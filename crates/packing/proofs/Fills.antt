@@ -10,7 +10,7 @@ use Rattle.telegram.specs.Telegram.{AnyTelegram}
 use Rattle.telegram_types.specs.declared.Named.{Named}
 use Rattle.telegram_types.specs.Face.{naming, padded, carriedBy, over, refusal}
 use Rattle.telegram_record.specs.Record.{packed, recordOf}
-use Rattle.packing.specs.Crossing.{gave, recorded, reading}
+use Rattle.telegram_record.specs.Crossing.{gave, recorded, reading}
 
 -- no more than seven bytes are carried
 pub few : (x : Option AnyTelegram) (m : Named) → m ≡ naming x → length (m .payload) ≡ 7 → m .len ≤ 7

@@ -1,4 +1,3 @@
 pub mod Fills
-pub mod Says
 pub mod RoundTrip
 pub mod Settled

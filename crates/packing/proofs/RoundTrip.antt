@@ -19,7 +19,7 @@ use Rattle.telegram.proofs.Tests.{both, together, tested, let-through, passed, 
 use Rattle.telegram.proofs.RoundTrip.{any-exact}
 use Rattle.telegram_types.specs.Face.{Wrote, numbersOf, carriedBy, padded, over, done, refusal}
 use Rattle.telegram_record.specs.Record.{words, packed, recordOf, countIn, carriedIn, setUpIn, positiveIn, negativeIn, dataIn, acknowledgeIn, connectionIn, aloneIn, openingIn, channelIn, kept, telegramIn}
-use Rattle.packing.specs.Crossing.{gave, recorded, reading, unpacked, writing}
+use Rattle.telegram_record.specs.Crossing.{gave, recorded, reading, unpacked, writing}
 use Rattle.telegram_record.proofs.Narrowed.{application-small}
 use Rattle.opening_record.proofs.Openings.{kinds}
 

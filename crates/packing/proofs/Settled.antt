@@ -8,7 +8,7 @@ use Rattle.codec.proofs.Settled.{settled}
 use Rattle.codes.specs.declared.Answer.{Answer}
 use Rattle.telegram.specs.Telegram.{readAny}
 use Rattle.telegram_types.specs.Face.{Wrote}
-use Rattle.packing.specs.Crossing.{gave, reading, writing}
+use Rattle.telegram_record.specs.Crossing.{gave, reading, writing}
 
 -- `read`: the code, and the buffer of the record at exit
 pub read-settled : (opening : Bool) (identifier : ℕ) (bytes telegram : List ℕ)

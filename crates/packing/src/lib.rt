@@ -1,22 +1,11 @@
 // Telegrams as records of 32 bytes, as they cross to C.
 ghost use mathlib.Core.Path.{_≡_};
-ghost use Prim.Native.Nat.{min, _≤_};
-ghost use lib.ListN.{length};
 ghost use Rattle.telegram.specs.Telegram.{readAny};
-ghost use Rattle.telegram_types.specs.Face.{takenSaid};
-ghost use Rattle.telegram_record.specs.Record.{kept, carriedIn, telegramIn};
-ghost use Rattle.packing.specs.Crossing.{gave, reading, writing};
-use codes::Answer;
-use codes::ERR_INVALID_MSG;
+ghost use Rattle.telegram_record.specs.Crossing.{gave, reading};
 use codes::ERR_NULL_PARAMETER;
 use codes::STATUS_NOERROR;
-use tp20::Taken;
-
-// The size of a record in bytes.
-pub const RECORD: usize = 32;
-
-// The room that the bytes of any telegram have.
-pub const ROOM: usize = 8;
+use record_writer::RECORD;
+pub use record_writer::write;
 
 // The record of the telegram that `bytes` are, over the start of a buffer.
 pub fn read(opening: bool, identifier: u32, bytes: &[u8], telegram: &mut [u8]) -> u32
@@ -35,51 +24,4 @@ pub fn read(opening: bool, identifier: u32, bytes: &[u8], telegram: &mut [u8]) -
     let record = telegram_record::pack(named.kind, fields, named.len as u8, payload);
     octets::copy(&mut telegram[..32], &record);
     STATUS_NOERROR
-}
-
-// The telegram that a record says, where the tables allow it.
-fn telegram_in(bytes: &[u8]) -> Taken
-    requires { ⌜ 32 ≤ length (now bytes) ⌝ }
-    ensures { λ r. ⌜ kept (takenSaid r (carriedIn (now (bytes .entry)))) ≡ telegramIn (now (bytes .entry)) ⌝ }
-{
-    if integers::word_at(bytes, 0) >= 0xC0 {
-        return opening_record::opening(bytes);
-    }
-    channel_record::channel(bytes)
-}
-
-// How many of the seven bytes are carried.
-fn carried(n: u8) -> usize
-    ensures { λ r. ⌜ r ≡ min n 7 ⌝ }
-{
-    if n < 7 { n as usize } else { 7 }
-}
-
-// A code, and nothing written.
-fn refused(code: u32) -> Answer
-    ensures { λ a. ⌜ (a .code ≡ code) × (a .value ≡ 0) ⌝ }
-{
-    Answer { code, value: 0 }
-}
-
-// The bytes of the telegram that a record says, over the start of a buffer; how many.
-pub fn write(telegram: &[u8], buffer: &mut [u8]) -> Answer
-    ensures { λ a. ⌜ gave (a .code) (a .value) (now (buffer .exit)) ≡ writing (now (telegram .entry)) (now (buffer .entry)) ⌝ }
-{
-    if telegram.len() < RECORD {
-        return refused(ERR_NULL_PARAMETER);
-    }
-    if buffer.len() < ROOM {
-        return refused(ERR_NULL_PARAMETER);
-    }
-    let taken = telegram_in(telegram);
-    let Taken::Yes(said) = taken else {
-        return refused(ERR_INVALID_MSG);
-    };
-    let end = 25 + carried(telegram[24]);
-    let written = tp20::write(said, &telegram[25..end], buffer);
-    Answer {
-        code: written.code,
-        value: written.len as u32,
-    }
 }

@@ -11,7 +11,7 @@ ghost use Rattle.layout.specs.Promise.{gives, outcome, powerOnOutcome};
 ghost use Rattle.telegram.specs.Bits.{bitValue};
 ghost use Rattle.telegram.specs.Telegram.{timeOf, readAny};
 ghost use Rattle.recording.specs.Replay.{leaves, replayed};
-ghost use Rattle.packing.specs.Crossing.{gave, reading, writing};
+ghost use Rattle.telegram_record.specs.Crossing.{gave, reading, writing};
 
 // A test as a number.
 fn bit(b: bool) -> u32

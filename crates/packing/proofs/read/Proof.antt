@@ -6,7 +6,7 @@ use lib.ListN.{length}
 use lib.Seq.{length-take-le}
 use borrow.Author.Tests.{lt-ltb}
 use Rattle.telegram_types.specs.Face.{refusal}
-use Rattle.packing.specs.Crossing.{reading}
+use Rattle.telegram_record.specs.Crossing.{reading}
 use Rattle.packing.proofs.Fills.{few, unread, crossed}
 use borrow.Author.Needs.{needs}
 use Rattle.packing.proofs.read.Statement.{statement}

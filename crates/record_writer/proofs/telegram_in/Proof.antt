@@ -1,9 +1,9 @@
--- `packing::telegram_in` meets its contract. Assumes nothing.
+-- `record_writer::telegram_in` meets its contract. Assumes nothing.
 use borrow.Author.Tests.{le-leb, lt-leb}
 use Rattle.telegram_record.specs.Record.{telegramIn}
 use borrow.Author.Needs.{needs}
-use Rattle.packing.proofs.telegram_in.Statement.{statement}
-use Rattle.packing.proofs.telegram_in.Tie as tie
+use Rattle.record_writer.proofs.telegram_in.Statement.{statement}
+use Rattle.record_writer.proofs.telegram_in.Tie as tie
 
 returns : tie.Need-returns
 unfolding telegramIn

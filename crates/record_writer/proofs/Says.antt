@@ -18,7 +18,7 @@ use Rattle.telegram_types.specs.declared.Written.{Written}
 use Rattle.telegram_types.specs.Face.{Wrote, wrote, said, takenSaid, writtenIf, refusal, done}
 use Rattle.telegram_types.specs.Face.{writing as tells}
 use Rattle.telegram_record.specs.Record.{kept, countIn, carriedIn, telegramIn}
-use Rattle.packing.specs.Crossing.{unpacked, writing, gave}
+use Rattle.telegram_record.specs.Crossing.{unpacked, writing, gave}
 
 -- no telegram is said
 pub unsaid : (k : Taken) (r : List ℕ) → kept (takenSaid k (carriedIn r)) ≡ telegramIn r → k ≡ No → telegramIn r ≡ none

@@ -1,12 +1,12 @@
--- `packing::write` meets its contract. Assumes nothing.
+-- `record_writer::write` meets its contract. Assumes nothing.
 use native.Mathlib.Omega.{arith}
 use borrow.Author.Tests.{lt-ltb, le-ltb}
 use Rattle.telegram_types.specs.Face.{refusal}
-use Rattle.packing.specs.Crossing.{writing, unpacked}
-use Rattle.packing.proofs.Says.{unsaid, said-written, carried-part, short-write}
+use Rattle.telegram_record.specs.Crossing.{writing, unpacked}
+use Rattle.record_writer.proofs.Says.{unsaid, said-written, carried-part, short-write}
 use borrow.Author.Needs.{needs}
-use Rattle.packing.proofs.write.Statement.{statement}
-use Rattle.packing.proofs.write.Tie as tie
+use Rattle.record_writer.proofs.write.Statement.{statement}
+use Rattle.record_writer.proofs.write.Tie as tie
 
 returns : tie.Need-returns
 unfolding writing refusal
