@@ -23,7 +23,8 @@ use Rattle.layout.proofs.Memory.{rec-lawful, out-lawful, region-lawful}
 use Rattle.layout.proofs.Sizes.{out-size}
 use Rattle.layout.proofs.Good.{Fine, fl, put-sending}
 use Rattle.layout.proofs.Region.{openOf, moves, stays, mark-of, loopback-part, flight-part, opened-again}
-use Rattle.receiving.specs.Queue.{arrived, Outgoing}
+use Rattle.queue.specs.Queue.{arrived}
+use Rattle.receiving.specs.Outgoing.{Outgoing}
 use Rattle.stores.proofs.Flight.{none-put, good, none-flies, flies}
 
 -- a mark that is not 0 is on
