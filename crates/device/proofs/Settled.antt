@@ -1,0 +1,104 @@
+-- ANY TWO OUTCOMES OF A PUBLIC CALL ARE EQUAL: said of each of the 17 calls, over the very postcondition that its function is proved to meet.
+-- An outcome is what the function returns and what it leaves in the memory and in a lent buffer. Assumes nothing.
+use mathlib.Core.Path.{sym, ap, _∙_}
+use Prim.Native.Nat.{ℕ}
+use mathlib.Core.List.{List}
+use contract.Lifetimes.{Lfts}
+use denote.Triple.Clauses.{Lasts, atExit}
+use borrow.Fn.Kinds.{PK, RK, Out, Dens, resT, endedOf}
+use Rattle.codec.specs.Settled.{Settled}
+use Rattle.layout.specs.Promise.{Result}
+use Rattle.device_channels.proofs.connect.Kinds as connect-kinds
+use Rattle.device_channels.proofs.connect.Reads as connect
+use Rattle.device_channels.proofs.get.Kinds as get-kinds
+use Rattle.device_channels.proofs.get.Reads as get
+use Rattle.device_channels.proofs.set.Kinds as set-kinds
+use Rattle.device_channels.proofs.set.Reads as set
+use Rattle.device_channels.proofs.disconnect.Kinds as disconnect-kinds
+use Rattle.device_channels.proofs.disconnect.Reads as disconnect
+use Rattle.device_channels.proofs.clear.Kinds as clear-kinds
+use Rattle.device_channels.proofs.clear.Reads as clear
+use Rattle.device_orders.proofs.start_filter.Kinds as start-filter-kinds
+use Rattle.device_orders.proofs.start_filter.Reads as start-filter
+use Rattle.device_orders.proofs.stop_filter.Kinds as stop-filter-kinds
+use Rattle.device_orders.proofs.stop_filter.Reads as stop-filter
+use Rattle.device_orders.proofs.start_periodic.Kinds as start-periodic-kinds
+use Rattle.device_orders.proofs.start_periodic.Reads as start-periodic
+use Rattle.device_orders.proofs.stop_periodic.Kinds as stop-periodic-kinds
+use Rattle.device_orders.proofs.stop_periodic.Reads as stop-periodic
+use Rattle.device_traffic.proofs.write.Kinds as write-kinds
+use Rattle.device_traffic.proofs.write.Reads as write
+use Rattle.device_traffic.proofs.read.Kinds as read-kinds
+use Rattle.device_traffic.proofs.read.Reads as read
+use Rattle.device_traffic.proofs.take.Kinds as take-kinds
+use Rattle.device_traffic.proofs.take.Reads as take
+use Rattle.device_traffic.proofs.sent.Kinds as sent-kinds
+use Rattle.device_traffic.proofs.sent.Reads as sent
+use Rattle.device_lines.proofs.power_on.Kinds as power-on-kinds
+use Rattle.device_lines.proofs.power_on.Reads as power-on
+use Rattle.device_lines.proofs.close.Kinds as close-kinds
+use Rattle.device_lines.proofs.close.Reads as close
+use Rattle.device_lines.proofs.advance.Kinds as advance-kinds
+use Rattle.device_lines.proofs.advance.Reads as advance
+use Rattle.device_lines.proofs.frame.Kinds as frame-kinds
+use Rattle.device_lines.proofs.frame.Reads as frame
+
+-- what a function returns, and what it leaves behind each `&mut` that it was lent
+abbrev pub Outcome : (n : ℕ) (ps : List (PK n)) (r : RK n) (κs : Lfts n) → Dens κs ps → Type 0
+Outcome n ps r κs a = resT r κs .Denot × Lasts (endedOf n ps r) κs a
+
+-- for the same arguments, any two outcomes that meet a function's postcondition are equal
+abbrev pub OneOutcome : (n : ℕ) (ps : List (PK n)) (r : RK n) → Out n ps r → Type 0
+OneOutcome n ps r post =
+    (κs : Lfts n) (a : Dens κs ps) → Settled {A = Outcome n ps r κs a} (λ x. post κs a (x .0) (atExit (endedOf n ps r) κs a (x .1)))
+
+pub connect-settled : OneOutcome 1 connect-kinds.ps connect-kinds.r connect.Post
+connect-settled κs a x y p q = ap (λ (s : Result). (record { code = s .code; value = s .value }, (s .memory, x .1 .1))) (p ∙ sym q)
+
+pub get-settled : OneOutcome 1 get-kinds.ps get-kinds.r get.Post
+get-settled κs a x y p q = ap (λ (s : Result). (record { code = s .code; value = s .value }, x .1)) (p ∙ sym q)
+
+pub set-settled : OneOutcome 1 set-kinds.ps set-kinds.r set.Post
+set-settled κs a x y p q = ap (λ (s : Result). (s .code, (s .memory, x .1 .1))) (p ∙ sym q)
+
+pub disconnect-settled : OneOutcome 1 disconnect-kinds.ps disconnect-kinds.r disconnect.Post
+disconnect-settled κs a x y p q = ap (λ (s : Result). (s .code, (s .memory, x .1 .1))) (p ∙ sym q)
+
+pub clear-settled : OneOutcome 1 clear-kinds.ps clear-kinds.r clear.Post
+clear-settled κs a x y p q = ap (λ (s : Result). (s .code, (s .memory, x .1 .1))) (p ∙ sym q)
+
+pub start-filter-settled : OneOutcome 3 start-filter-kinds.ps start-filter-kinds.r start-filter.Post
+start-filter-settled κs a x y p q = ap (λ (s : Result). (record { code = s .code; value = s .value }, (s .memory, x .1 .1))) (p ∙ sym q)
+
+pub stop-filter-settled : OneOutcome 1 stop-filter-kinds.ps stop-filter-kinds.r stop-filter.Post
+stop-filter-settled κs a x y p q = ap (λ (s : Result). (s .code, (s .memory, x .1 .1))) (p ∙ sym q)
+
+pub start-periodic-settled : OneOutcome 2 start-periodic-kinds.ps start-periodic-kinds.r start-periodic.Post
+start-periodic-settled κs a x y p q = ap (λ (s : Result). (record { code = s .code; value = s .value }, (s .memory, x .1 .1))) (p ∙ sym q)
+
+pub stop-periodic-settled : OneOutcome 1 stop-periodic-kinds.ps stop-periodic-kinds.r stop-periodic.Post
+stop-periodic-settled κs a x y p q = ap (λ (s : Result). (s .code, (s .memory, x .1 .1))) (p ∙ sym q)
+
+pub write-settled : OneOutcome 2 write-kinds.ps write-kinds.r write.Post
+write-settled κs a x y p q = ap (λ (s : Result). (record { code = s .code; value = s .value }, (s .memory, x .1 .1))) (p ∙ sym q)
+
+pub read-settled : OneOutcome 2 read-kinds.ps read-kinds.r read.Post
+read-settled κs a x y p q = ap (λ (s : Result). (record { code = s .code; value = s .value }, (s .memory, (tt, (tt, (s .buffer, tt)))))) (p ∙ sym q)
+
+pub take-settled : OneOutcome 2 take-kinds.ps take-kinds.r take.Post
+take-settled κs a x y p q = ap (λ (s : Result). (s .code, (s .memory, (tt, (s .buffer, tt))))) (p ∙ sym q)
+
+pub sent-settled : OneOutcome 1 sent-kinds.ps sent-kinds.r sent.Post
+sent-settled κs a x y p q = ap (λ (s : Result). (s .code, (s .memory, x .1 .1))) (p ∙ sym q)
+
+pub power-on-settled : OneOutcome 1 power-on-kinds.ps power-on-kinds.r power-on.Post
+power-on-settled κs a x y p q = ap (λ (s : Result). (s .code, (s .memory, x .1 .1))) (p ∙ sym q)
+
+pub close-settled : OneOutcome 1 close-kinds.ps close-kinds.r close.Post
+close-settled κs a x y p q = ap (λ (s : Result). (s .code, (s .memory, x .1 .1))) (p ∙ sym q)
+
+pub advance-settled : OneOutcome 1 advance-kinds.ps advance-kinds.r advance.Post
+advance-settled κs a x y p q = ap (λ (s : Result). (s .code, (s .memory, x .1 .1))) (p ∙ sym q)
+
+pub frame-settled : OneOutcome 2 frame-kinds.ps frame-kinds.r frame.Post
+frame-settled κs a x y p q = ap (λ (s : Result). (s .code, (s .memory, x .1 .1))) (p ∙ sym q)

@@ -1,0 +1,70 @@
+// A channel is opened, set up and closed, on any bytes that are lent as the memory: connect, disconnect, get, set, clear.
+ghost use mathlib.Core.Path.{_≡_};
+ghost use mathlib.Core.List.{[]};
+ghost use Rattle.machine.specs.Codes.{threeRates};
+ghost use Rattle.machine.specs.Channel.{disconnect as disconnects};
+ghost use Rattle.machine.specs.Channel.{clear as clears};
+ghost use Rattle.machine.specs.Channel.{getParameter, setParameter};
+ghost use Rattle.machine.specs.Device.{call};
+ghost use Rattle.machine.specs.Device.{connect as connects};
+ghost use Rattle.layout.specs.Promise.{gives, outcome};
+use can::RATES;
+use codes::Answer;
+
+// Opens the channel of a line and gives its number.
+pub fn connect(mem: &mut [u8], line: u32, protocol: u32, flags: u32, rate: u32) -> Answer
+    ensures { λ a. ⌜ gives (a .code) (a .value) [] (now (mem .exit)) ≡ outcome threeRates (now (mem .entry)) (connects line protocol flags rate) ⌝ }
+{
+    if !validity::valid(mem) {
+        return Answer {
+            code: codes::ERR_INVALID_DEVICE_ID,
+            value: 0,
+        };
+    }
+    let rates = RATES;
+    owned_channels::connect(mem, &rates, line, protocol, flags, rate)
+}
+
+// A parameter's value.
+pub fn get(mem: &[u8], channel: u32, parameter: u32) -> Answer
+    ensures { λ a. ⌜ gives (a .code) (a .value) [] (now (mem .entry)) ≡ outcome threeRates (now (mem .entry)) (call channel (getParameter parameter)) ⌝ }
+{
+    if !validity::valid(mem) {
+        return Answer {
+            code: codes::ERR_INVALID_DEVICE_ID,
+            value: 0,
+        };
+    }
+    owned_channels::get(mem, channel, parameter)
+}
+
+// A parameter's new value.
+pub fn set(mem: &mut [u8], channel: u32, parameter: u32, value: u32) -> u32
+    ensures { λ c. ⌜ gives c 0 [] (now (mem .exit)) ≡ outcome threeRates (now (mem .entry)) (call channel (setParameter parameter value)) ⌝ }
+{
+    if !validity::valid(mem) {
+        return codes::ERR_INVALID_DEVICE_ID;
+    }
+    let rates = RATES;
+    owned_channels::set(mem, &rates, channel, parameter, value)
+}
+
+// Closes a channel.
+pub fn disconnect(mem: &mut [u8], channel: u32) -> u32
+    ensures { λ c. ⌜ gives c 0 [] (now (mem .exit)) ≡ outcome threeRates (now (mem .entry)) (call channel disconnects) ⌝ }
+{
+    if !validity::valid(mem) {
+        return codes::ERR_INVALID_DEVICE_ID;
+    }
+    owned_channels::disconnect(mem, channel)
+}
+
+// Empties one kind of what a channel holds.
+pub fn clear(mem: &mut [u8], channel: u32, kind: u32) -> u32
+    ensures { λ c. ⌜ gives c 0 [] (now (mem .exit)) ≡ outcome threeRates (now (mem .entry)) (call channel (clears kind)) ⌝ }
+{
+    if !validity::valid(mem) {
+        return codes::ERR_INVALID_DEVICE_ID;
+    }
+    owned_channels::clear(mem, channel, kind)
+}

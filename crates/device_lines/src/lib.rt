@@ -1,0 +1,50 @@
+// What concerns a line or the whole box, on any bytes that are lent as its memory: power-on, a frame, time that goes on, close.
+ghost use mathlib.Core.Path.{_≡_};
+ghost use mathlib.Core.List.{[]};
+ghost use Rattle.machine.specs.Codes.{threeRates};
+ghost use Rattle.machine.specs.Device.{close as closes};
+ghost use Rattle.machine.specs.Device.{advance as advances};
+ghost use Rattle.machine.specs.Device.{frame as framed};
+ghost use Rattle.layout.specs.Promise.{gives, outcome, powerOnOutcome};
+use places::MEMORY;
+
+// Any bytes of the right size become the memory of a box just switched on.
+pub fn power_on(mem: &mut [u8]) -> u32
+    ensures { λ c. ⌜ gives c 0 [] (now (mem .exit)) ≡ powerOnOutcome (now (mem .entry)) ⌝ }
+{
+    if mem.len() != MEMORY {
+        return codes::ERR_INVALID_DEVICE_ID;
+    }
+    octets::zero(mem);
+    codes::STATUS_NOERROR
+}
+
+// Disconnects all; the clock runs on.
+pub fn close(mem: &mut [u8]) -> u32
+    ensures { λ c. ⌜ gives c 0 [] (now (mem .exit)) ≡ outcome threeRates (now (mem .entry)) closes ⌝ }
+{
+    if !validity::valid(mem) {
+        return codes::ERR_INVALID_DEVICE_ID;
+    }
+    owned_lines::close(mem)
+}
+
+// Time goes on, for the clock and every periodic.
+pub fn advance(mem: &mut [u8], us: u32) -> u32
+    ensures { λ c. ⌜ gives c 0 [] (now (mem .exit)) ≡ outcome threeRates (now (mem .entry)) (advances us) ⌝ }
+{
+    if !validity::valid(mem) {
+        return codes::ERR_INVALID_DEVICE_ID;
+    }
+    owned_lines::advance(mem, us)
+}
+
+// A frame from a line, offered to the line's channel.
+pub fn frame(mem: &mut [u8], line: u32, wide: u32, id: u32, bytes: &[u8]) -> u32
+    ensures { λ c. ⌜ gives c 0 [] (now (mem .exit)) ≡ outcome threeRates (now (mem .entry)) (framed line wide id (now (bytes .entry))) ⌝ }
+{
+    if !validity::valid(mem) {
+        return codes::ERR_INVALID_DEVICE_ID;
+    }
+    owned_lines::frame(mem, line, wide, id, bytes)
+}
