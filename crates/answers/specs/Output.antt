@@ -4,7 +4,7 @@ use mathlib.Core.List.{List, [], _++_}
 use lib.Dec.{eqb}
 use lib.ListN.{take}
 use Rattle.codec.specs.Plain.{if_then_else_}
-use Rattle.limits.specs.Limits.{recordSize}
+use Rattle.machine.specs.Limits.{recordSize}
 use Rattle.number.specs.Number.{bytesOf}
 use Rattle.machine.specs.Channel.{Call, disconnect, startFilter, stopFilter, startPeriodic, stopPeriodic, write, read, takeNext, sent, clear, getParameter, setParameter, Answer}
 use Rattle.machine.specs.Device.{Event, connect, call, frame, advance, close}

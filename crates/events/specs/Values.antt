@@ -6,7 +6,7 @@ use mathlib.Core.Option.{Option, none, some}
 use lib.Dec.{leb}
 use lib.ListN.{length, getD}
 use Rattle.codec.specs.Plain.{if_then_else_}
-use Rattle.limits.specs.Limits.{recordSize}
+use Rattle.machine.specs.Limits.{recordSize}
 use Rattle.events.specs.Events.{Reads, _>>=_, done, bad, number, atMost64}
 use Rattle.events.specs.declared.Plain.{Plain}
 use Rattle.events.specs.declared.Plain.the-variants as plain

@@ -2,13 +2,14 @@
 ghost use mathlib.Core.Path.{_≡_};
 ghost use Prim.Native.Nat.{_+_, _*_};
 ghost use lib.ListN.{length, take};
-ghost use Rattle.limits.specs.Limits.{longest, perByte, beyond};
+ghost use Rattle.recording_sizes.specs.Sizes.{longest, perByte, beyond};
 
 // One byte more than a recording may have: it tells an overlong one, and nothing past it is read.
-pub const READ: usize = limits::LONGEST + 1;
+pub const READ: usize = recording_sizes::LONGEST + 1;
 
 // What a buffer has to have for the answers of any recording.
-pub const ROOM: usize = limits::PER_BYTE * limits::LONGEST + limits::BEYOND;
+pub const ROOM: usize = recording_sizes::PER_BYTE * recording_sizes::LONGEST
+    + recording_sizes::BEYOND;
 
 // Where one read more leaves the input: so many bytes are there, or it has ended, or it could not be read.
 enum Input {

@@ -7,7 +7,7 @@ use lib.ListN.{length}
 use Rattle.machine.specs.Device.{Event, step}
 use Rattle.layout.specs.Memory.{image, load}
 use Rattle.layout.specs.Reach.{Bytes}
-use Rattle.limits.specs.Limits.{badNumber}
+use Rattle.recording_sizes.specs.Sizes.{badNumber}
 use Rattle.number.specs.Place.{Written}
 use Rattle.events.specs.Events.{readEvent}
 use Rattle.answers.specs.Output.{answerBytes}

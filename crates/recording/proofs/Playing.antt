@@ -18,7 +18,8 @@ use Rattle.layout.proofs.Memory.{load-image, ok-load, valid-image}
 use Rattle.layout.proofs.Entry.{length-valid, four}
 use Rattle.layout.proofs.Sizes.{power-on-zeros}
 use Rattle.layout.proofs.Reach.{step-ok, power-on-ok}
-use Rattle.limits.specs.Limits.{perByte, beyond, memorySize}
+use Rattle.recording_sizes.specs.Sizes.{perByte, beyond}
+use Rattle.layout.specs.Sizes.{memorySize}
 use Rattle.number.specs.Number.{bytesOf}
 use Rattle.number.specs.Place.{Written}
 use Rattle.events.specs.Events.{readEvent}

@@ -11,7 +11,8 @@ use Rattle.machine.specs.Device.{powerOn}
 use Rattle.machine.specs.Device as machine
 use Rattle.layout.specs.Memory.{load, valid}
 use Rattle.number.proofs.Laws.{written-short}
-use Rattle.limits.specs.Limits.{perByte, beyond, memorySize}
+use Rattle.recording_sizes.specs.Sizes.{perByte, beyond}
+use Rattle.layout.specs.Sizes.{memorySize}
 use Rattle.events.specs.Events.{readEvent}
 use Rattle.events.proofs.Ending.{event-ends}
 use Rattle.layout.proofs.Calls.{Known}

@@ -6,7 +6,7 @@ use mathlib.Core.Option.{Option, none, some}
 use lib.Dec.{leb, ltb}
 use lib.ListN.{length, drop}
 use Rattle.codec.specs.Plain.{if_then_else_}
-use Rattle.limits.specs.Limits.{longest, perByte, beyond, badNumber, badSize}
+use Rattle.recording_sizes.specs.Sizes.{longest, perByte, beyond, badNumber, badSize}
 use Rattle.number.specs.Number.{bytesOf}
 use Rattle.machine.specs.Codes.{threeRates}
 use Rattle.machine.specs.Device.{Device, powerOn, Event, step}

@@ -3,15 +3,13 @@ ghost use mathlib.Core.Path.{_≡_};
 ghost use Prim.Native.Nat.{_+_, _*_, _≤_};
 ghost use lib.ListN.{length};
 ghost use Rattle.codec.specs.Plain.{zeros};
-ghost use Rattle.limits.specs.Limits.{perByte, beyond, memorySize};
+ghost use Rattle.recording_sizes.specs.Sizes.{perByte, beyond};
+ghost use Rattle.layout.specs.Sizes.{memorySize};
 ghost use Rattle.machine.specs.Codes.{threeRates};
 ghost use Rattle.machine.specs.Device.{powerOn};
 ghost use Rattle.answers.specs.Put.{Put};
 ghost use Rattle.recording.specs.Replay.{leaves, played, roomFor, replayed};
 use reader::Reader;
-
-// The size of the device memory.
-const MEMORY: usize = 9996;
 
 // The code of a replay, and how many bytes of the output it wrote.
 pub struct Played {
@@ -38,10 +36,10 @@ fn play_all(mem: &mut [u8], recording: &[u8], out: &mut [u8]) -> usize
 fn room_for(recording: &[u8]) -> usize
     ensures { λ r. ⌜ r ≡ roomFor (now (recording .entry)) ⌝ }
 {
-    if recording.len() > limits::LONGEST {
-        return limits::BAD_SIZE;
+    if recording.len() > recording_sizes::LONGEST {
+        return recording_sizes::BAD_SIZE;
     }
-    limits::PER_BYTE * recording.len() + limits::BEYOND
+    recording_sizes::PER_BYTE * recording.len() + recording_sizes::BEYOND
 }
 
 // Replays a recording from power-on into a lent buffer: 0x00 and the length of the output, or 0x04 where the buffer is too short for what a
@@ -55,14 +53,14 @@ pub fn replay(recording: &[u8], out: &mut [u8]) -> Played
             length: 0,
         };
     }
-    if recording.len() > limits::LONGEST {
-        let length = answers::put_number(out, 0, limits::BAD_EVENT);
+    if recording.len() > recording_sizes::LONGEST {
+        let length = answers::put_number(out, 0, recording_sizes::BAD_EVENT);
         return Played {
             code: codes::STATUS_NOERROR,
             length,
         };
     }
-    let mut mem = [0; MEMORY];
+    let mut mem = [0; places::MEMORY];
     let length = play_all(&mut mem, recording, out);
     Played {
         code: codes::STATUS_NOERROR,

@@ -6,8 +6,8 @@ use events::Found;
 use events::Giving;
 use events::Plain;
 use libc::STDOUT_FILENO;
-use words::part;
-use words::text;
+use trace_words::part;
+use trace_words::text;
 
 // The code of an event that is answered by its code alone.
 fn plain_code(memory: &mut [u8; MEMORY], recording: &[u8], e: Plain) -> u32 {
@@ -61,30 +61,30 @@ fn answer(memory: &mut [u8; MEMORY], recording: &[u8], e: Giving) -> Answer {
 
 // A read, its answer and the records that it gave.
 fn read(memory: &mut [u8; MEMORY], channel: u32, n: u32) {
-    let mut buffer = [0u8; limits::RECORDS];
-    telling::read(channel, n);
+    let mut buffer = [0u8; recording_sizes::RECORDS];
+    trace_events::read(channel, n);
     let answer = device::read(memory, channel, n, &mut buffer);
-    telling::given_records(answer, &buffer);
+    trace_events::given_records(answer, &buffer);
 }
 
 // A take, its answer and the record to send.
 fn take(memory: &mut [u8; MEMORY], channel: u32) {
-    let mut buffer = [0u8; limits::RECORD];
-    telling::take(channel);
+    let mut buffer = [0u8; recording_sizes::RECORD];
+    trace_events::take(channel);
     let code = device::take(memory, channel, &mut buffer);
-    telling::taken(code, &buffer);
+    trace_events::taken(code, &buffer);
 }
 
 // An event and its answer.
 fn event(memory: &mut [u8; MEMORY], recording: &[u8], e: Event) {
     match e {
         Event::Code(asked) => {
-            telling::plain(recording, asked);
-            telling::coded(plain_code(memory, recording, asked));
+            trace_events::plain(recording, asked);
+            trace_events::coded(plain_code(memory, recording, asked));
         }
         Event::Number(asked) => {
-            telling::giving(asked);
-            telling::numbered(recording, asked, answer(memory, recording, asked));
+            trace_events::giving(asked);
+            trace_events::numbered(recording, asked, answer(memory, recording, asked));
         }
         Event::Write {
             channel,
@@ -92,9 +92,9 @@ fn event(memory: &mut [u8; MEMORY], recording: &[u8], e: Event) {
             from,
             end,
         } => {
-            telling::write(channel, n);
+            trace_events::write(channel, n);
             let list = part(recording, from, end);
-            telling::written(device::write(memory, channel, n, list), list);
+            trace_events::written(device::write(memory, channel, n, list), list);
         }
         Event::Read(channel, n) => read(memory, channel, n),
         Event::Take(channel) => take(memory, channel),
@@ -112,9 +112,9 @@ fn show(recording: &[u8]) {
         if at >= recording.len() {
             return;
         }
-        words::line(n);
+        trace_words::line(n);
         let Found::Good(e, next) = event_reader::read_event(recording, at) else {
-            words::bad(at);
+            trace_words::bad(at);
             return;
         };
         event(&mut memory, recording, e);

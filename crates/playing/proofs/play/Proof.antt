@@ -1,7 +1,6 @@
 -- `playing::play` meets its contract. The call, and then what it answers. Assumes nothing.
 use mathlib.Core.Path.{_≡_, subst}
 use native.Mathlib.Omega.{arith}
-use Rattle.machine.specs.Codes.{threeRates}
 use denote.Ref.{now}
 use Rattle.number.specs.Number.{bytesOf}
 use Rattle.events.specs.declared.Event.{Event}
@@ -42,26 +41,26 @@ returns : tie.Need-returns
 returns c =
     let start = c .before .before .before .before .before .before .before .before .before .before .before .before .before .before in
     rw (c .before .before .before .before .before .before .before .before .before .e .given .1)
-    (answers threeRates (now (start .args .mem)) (start .pre .0) _ (c .before .before .before .before .before .before .plain-code .ensures) (λ k v. bytesOf k) (plain-bytes (now (start .args .recording)) (c .before .before .before .before .before .before .before .before .before .e .given .0 .0))
+    (answers (now (start .args .rates)) (now (start .args .mem)) (start .pre .0) _ (c .before .before .before .before .before .before .plain-code .ensures) (λ k v. bytesOf k) (plain-bytes (now (start .args .recording)) (c .before .before .before .before .before .before .before .before .before .e .given .0 .0))
     (put-number _ _ _ _ _ (c .before .before .put-number .ensures)))
 
 returns-2 : tie.Need-returns-2
 returns-2 c =
     let start = c .before .before .before .before .before .before .before .before .before .before .before .before .before .before in
     rw (c .before .before .before .before .before .before .before .before .before .e2 .given .1)
-    (answers threeRates (now (start .args .mem)) (start .pre .0) _ (c .before .before .before .before .before .before .giving-answer .ensures) numbered (giving-bytes (now (start .args .recording)) (c .before .before .before .before .before .before .before .before .before .e2 .given .0 .0)) (c .before .before .put-done .ensures))
+    (answers (now (start .args .rates)) (now (start .args .mem)) (start .pre .0) _ (c .before .before .before .before .before .before .giving-answer .ensures) numbered (giving-bytes (now (start .args .recording)) (c .before .before .before .before .before .before .before .before .before .e2 .given .0 .0)) (c .before .before .put-done .ensures))
 
 returns-3 : tie.Need-returns-3
 returns-3 c =
     let start = c .before .before .before .before .before .before .before .before .before .before .before .before .before .before .before in
     rw (c .before .before .before .before .before .before .before .before .before .before .e3 .given .1)
-    (answers threeRates (now (start .args .mem)) (start .pre .0) _ (c .before .before .before .before .before .before .write .ensures) counted (write-bytes _ _ _) (c .before .before .put-count .ensures))
+    (answers (now (start .args .rates)) (now (start .args .mem)) (start .pre .0) _ (c .before .before .before .before .before .before .write .ensures _) counted (write-bytes _ _ _) (c .before .before .put-count .ensures))
 
 returns-4 : tie.Need-returns-4
-returns-4 c = rw (c .before .before .before .before .before .before .before .before .e4 .given .1) (c .before .before .before .before .read-into .ensures)
+returns-4 c = rw (c .before .before .before .before .before .before .before .before .e4 .given .1) (c .before .before .before .before .read-into .ensures _)
 
 returns-5 : tie.Need-returns-5
-returns-5 c = rw (c .before .before .before .before .before .before .before .before .e5 .given .1) (c .before .before .before .before .take-into .ensures)
+returns-5 c = rw (c .before .before .before .before .before .before .before .before .e5 .given .1) (c .before .before .before .before .take-into .ensures _)
 
 pub play-spec : {M : Type 1} → statement M
 play-spec =

@@ -1,9 +1,8 @@
 -- `playing::take_into` meets its contract. What the part that is lent held before plays no part. Assumes nothing.
 use Prim.Native.Nat.{ℕ, _+_, _-_}
 use mathlib.Core.Path.{_≡_}
-use mathlib.Core.List.{List}
+use mathlib.Core.List.{List, []}
 use native.Mathlib.Omega.{arith}
-use Rattle.machine.specs.Codes.{threeRates}
 use lib.ListN.{length}
 use denote.Ref.{now}
 use Rattle.playing.proofs.Answers.{TakenInto, taken-into}
@@ -21,19 +20,19 @@ size c = start c .args .at + 1 + 36 - (start c .args .at + 1)
 abbrev left : tie.After-slice-known4 → List ℕ
 left c = c .before .before .before .before .take .last .1 .1 .0
 
-into : (c : tie.After-slice-known4) → TakenInto threeRates (now (start c .args .mem)) (now (start c .args .out)) (start c .args .channel) (start c .args .at) (size c) (c .before .before .before .before .take .result) (left c) (c .before .before .before .before .take .last .0)
-into c =
+into : (rates : List ℕ) (c : tie.After-slice-known4) → TakenInto rates (now (start c .args .mem)) (now (start c .args .out)) (start c .args .channel) (start c .args .at) (size c) (c .before .before .before .before .take .result) (left c) (c .before .before .before .before .take .last .0)
+into rates c =
     let kept : length (left c) ≡ size c = omega arith in
-    taken-into threeRates (now (start c .args .mem)) (now (start c .args .out)) (start c .pre .0) (start c .args .channel) (start c .args .at) (start c .pre .1) (size c) (left c) (omega arith) (c .before .before .before .before .take .ensures) kept
+    taken-into rates (now (start c .args .mem)) (now (start c .args .out)) (start c .pre .0) (start c .args .channel) (start c .args .at) (start c .pre .1) (size c) (left c) (omega arith) (c .before .before .before .before .take .ensures rates) kept
 
 cast-out : tie.Need-cast-out
-cast-out c = omega (arith, into c .code)
+cast-out c = omega (arith, into [] c .code)
 
 returns : tie.Need-returns
-returns c = into (c .before) .refused (c .if1 .taken)
+returns c = λ rates. into rates (c .before) .refused (c .if1 .taken)
 
 returns-2 : tie.Need-returns-2
-returns-2 c = into (c .before) .done (c .if1 .left)
+returns-2 c = λ rates. into rates (c .before) .done (c .if1 .left)
 
 pub take-into-spec : {M : Type 1} → statement M
 take-into-spec =

@@ -1,0 +1,66 @@
+// The call that an event makes on a device memory known to be valid.
+ghost use mathlib.Core.Path.{_≡_};
+ghost use mathlib.Core.List.{[]};
+ghost use lib.Dec.{T};
+ghost use Rattle.layout.specs.Memory.{valid};
+ghost use Rattle.layout.specs.Promise.{gives, outcome};
+ghost use Rattle.events.specs.Found.{plainOf, givingOf, PlainThere, GivingThere};
+use codes::Answer;
+use events::Giving;
+use events::Plain;
+
+// The code of an event that is answered by its code alone.
+pub fn plain_code(mem: &mut [u8], rates: &[u32], recording: &[u8], e: Plain) -> u32
+    requires { ⌜ T (valid (now mem)) × PlainThere (now recording) e ⌝ }
+    ensures { λ c. ⌜ gives c 0 [] (now (mem .exit)) ≡ outcome (now (rates .entry)) (now (mem .entry)) (plainOf (now (recording .entry)) e) ⌝ }
+{
+    match e {
+        Plain::Disconnect(channel) => owned::disconnect(mem, channel),
+        Plain::Close => owned::close(mem),
+        Plain::Advance(us) => owned::advance(mem, us),
+        Plain::Frame {
+            line,
+            wide,
+            id,
+            from,
+            end,
+        } => owned::frame(mem, line, wide, id, &recording[from..end]),
+        Plain::StopFilter(channel, filter) => owned::stop_filter(mem, channel, filter),
+        Plain::StopPeriodic(channel, periodic) => owned::stop_periodic(mem, channel, periodic),
+        Plain::Sent(channel) => owned::sent(mem, channel),
+        Plain::Clear(channel, kind) => owned::clear(mem, channel, kind),
+        Plain::Set(channel, parameter, value) => owned::set(mem, rates, channel, parameter, value),
+    }
+}
+
+// The answer to an event that gives a number where it is done.
+pub fn giving_answer(mem: &mut [u8], rates: &[u32], recording: &[u8], e: Giving) -> Answer
+    requires { ⌜ T (valid (now mem)) × GivingThere (now recording) e ⌝ }
+    ensures { λ a. ⌜ gives (a .code) (a .value) [] (now (mem .exit)) ≡ outcome (now (rates .entry)) (now (mem .entry)) (givingOf (now (recording .entry)) e) ⌝ }
+{
+    match e {
+        Giving::Connect(line, protocol, flags, rate) => {
+            owned::connect(mem, rates, line, protocol, flags, rate)
+        }
+        Giving::StartFilter {
+            channel,
+            kind,
+            mask,
+            pattern,
+            end,
+        } => owned::start_filter(
+            mem,
+            channel,
+            kind,
+            &recording[mask..pattern],
+            &recording[pattern..end],
+        ),
+        Giving::StartPeriodic {
+            channel,
+            from,
+            end,
+            interval,
+        } => owned::start_periodic(mem, channel, &recording[from..end], interval),
+        Giving::Get(channel, parameter) => owned::get(mem, channel, parameter),
+    }
+}

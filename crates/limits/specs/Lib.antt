@@ -1,2 +1,0 @@
--- The sizes of recordings, their records and their answers. Assumes nothing.
-pub mod Limits

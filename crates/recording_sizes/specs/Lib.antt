@@ -1,0 +1,2 @@
+-- The sizes of recordings, their records and their answers. Assumes nothing.
+pub mod Sizes
