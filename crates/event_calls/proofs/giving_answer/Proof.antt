@@ -8,8 +8,8 @@ use Rattle.event_calls.proofs.giving_answer.Statement.{statement}
 use Rattle.event_calls.proofs.giving_answer.Tie as tie
 
 -- what the event lends is in the recording, by whichever name the event goes
-there : (c : tie.After-shared-slice-known) {x : Giving} → c .before .before .args .e ≡ x → GivingThere (c .before .before .args .recording .now) x
-there c q = subst (λ (x : Giving). GivingThere (c .before .before .args .recording .now) x) q (c .before .before .pre .1)
+there : (c : tie.After-shared-slice-known2) {x : Giving} → c .before .before .before .args .e ≡ x → GivingThere (c .before .before .before .args .recording .now) x
+there c q = subst (λ (x : Giving). GivingThere (c .before .before .before .args .recording .now) x) q (c .before .before .before .pre .1)
 
 sub-start-filter : tie.Need-sub-start-filter
 sub-start-filter c = let h = there (c .before .before .before .before) (c .before .before .e2 .given .1) in omega arith

@@ -8,8 +8,8 @@ use Rattle.event_calls.proofs.plain_code.Statement.{statement}
 use Rattle.event_calls.proofs.plain_code.Tie as tie
 
 -- what the event lends is in the recording, by whichever name the event goes
-there : (c : tie.After-shared-slice-known) {x : Plain} → c .before .before .args .e ≡ x → PlainThere (c .before .before .args .recording .now) x
-there c q = subst (λ (x : Plain). PlainThere (c .before .before .args .recording .now) x) q (c .before .before .pre .1)
+there : (c : tie.After-shared-slice-known2) {x : Plain} → c .before .before .before .args .e ≡ x → PlainThere (c .before .before .before .args .recording .now) x
+there c q = subst (λ (x : Plain). PlainThere (c .before .before .before .args .recording .now) x) q (c .before .before .before .pre .1)
 
 sub-frame : tie.Need-sub-frame
 sub-frame c = let h = there (c .before .before .before .before) (c .before .before .e3 .given .1) in omega arith

@@ -13,17 +13,17 @@ use Rattle.playing.proofs.play.Statement.{statement}
 use Rattle.playing.proofs.play.Tie as tie
 
 -- what the event lends is in the recording, by whichever name the event goes
-there : (c : tie.After-slice-known2) {x : Event} → c .before .before .before .args .e ≡ x → EventThere (c .before .before .before .args .recording .now) x
-there c q = subst (λ (x : Event). EventThere (c .before .before .before .args .recording .now) x) q (c .before .before .before .pre .1)
+there : (c : tie.After-slice-known2) {x : Event} → c .before .before .before .before .args .e ≡ x → EventThere (c .before .before .before .before .args .recording .now) x
+there c q = subst (λ (x : Event). EventThere (c .before .before .before .before .args .recording .now) x) q (c .before .before .before .before .pre .1)
 
 plain-code-requires : tie.Need-plain-code-requires
-plain-code-requires c κs = (c .before .before .before .before .before .before .before .pre .0, there (c .before .before .before .before) (c .before .before .e .given .1))
+plain-code-requires c κs = (c .before .before .before .before .before .before .before .before .pre .0, there (c .before .before .before .before) (c .before .before .e .given .1))
 
 put-number-requires : tie.Need-put-number-requires
-put-number-requires c κs = number-fits (now (c .before .before .before .before .before .before .before .before .before .before .before .args .out)) (c .before .before .before .before .before .before .before .before .before .before .before .args .at) (c .before .before .before .plain-code .result) (omega arith)
+put-number-requires c κs = number-fits (now (c .before .before .before .before .before .before .before .before .before .before .before .before .args .out)) (c .before .before .before .before .before .before .before .before .before .before .before .before .args .at) (c .before .before .before .plain-code .result) (omega arith)
 
 giving-answer-requires : tie.Need-giving-answer-requires
-giving-answer-requires c κs = (c .before .before .before .before .before .before .before .pre .0, there (c .before .before .before .before) (c .before .before .e2 .given .1))
+giving-answer-requires c κs = (c .before .before .before .before .before .before .before .before .pre .0, there (c .before .before .before .before) (c .before .before .e2 .given .1))
 
 sub-write : tie.Need-sub-write
 sub-write c = let h = there (c .before .before .before .before) (c .before .before .e3 .given .1) in omega arith
@@ -35,24 +35,24 @@ part-write-end : tie.Need-part-write-end
 part-write-end c = let h = there (c .before .before .before .before) (c .before .before .e3 .given .1) in omega arith
 
 read-into-requires : tie.Need-read-into-requires
-read-into-requires c κs = (c .before .before .before .before .before .before .before .before .pre .0, there (c .before .before .before .before .before) (c .before .before .before .e4 .given .1), c .before .before .before .before .before .before .before .before .pre .2)
+read-into-requires c κs = (c .before .before .before .before .before .before .before .before .before .pre .0, there (c .before .before .before .before .before) (c .before .before .before .e4 .given .1), c .before .before .before .before .before .before .before .before .before .pre .2)
 
 returns : tie.Need-returns
 returns c =
-    let start = c .before .before .before .before .before .before .before .before .before .before .before .before .before .before in
+    let start = c .before .before .before .before .before .before .before .before .before .before .before .before .before .before .before in
     rw (c .before .before .before .before .before .before .before .before .before .e .given .1)
     (answers (now (start .args .rates)) (now (start .args .mem)) (start .pre .0) _ (c .before .before .before .before .before .before .plain-code .ensures) (λ k v. bytesOf k) (plain-bytes (now (start .args .recording)) (c .before .before .before .before .before .before .before .before .before .e .given .0 .0))
     (put-number _ _ _ _ _ (c .before .before .put-number .ensures)))
 
 returns-2 : tie.Need-returns-2
 returns-2 c =
-    let start = c .before .before .before .before .before .before .before .before .before .before .before .before .before .before in
+    let start = c .before .before .before .before .before .before .before .before .before .before .before .before .before .before .before in
     rw (c .before .before .before .before .before .before .before .before .before .e2 .given .1)
     (answers (now (start .args .rates)) (now (start .args .mem)) (start .pre .0) _ (c .before .before .before .before .before .before .giving-answer .ensures) numbered (giving-bytes (now (start .args .recording)) (c .before .before .before .before .before .before .before .before .before .e2 .given .0 .0)) (c .before .before .put-done .ensures))
 
 returns-3 : tie.Need-returns-3
 returns-3 c =
-    let start = c .before .before .before .before .before .before .before .before .before .before .before .before .before .before .before in
+    let start = c .before .before .before .before .before .before .before .before .before .before .before .before .before .before .before .before in
     rw (c .before .before .before .before .before .before .before .before .before .before .e3 .given .1)
     (answers (now (start .args .rates)) (now (start .args .mem)) (start .pre .0) _ (c .before .before .before .before .before .before .write .ensures _) counted (write-bytes _ _ _) (c .before .before .put-count .ensures))
 

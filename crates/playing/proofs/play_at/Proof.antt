@@ -15,12 +15,13 @@ returns : tie.Need-returns
 returns c = turned-bad threeRates (c .before .before .before .before .before .before .before .before .before .before .args .recording .now) (c .before .before .before .before .before .before .before .before .before .before .args .at) (c .before .before .before .before .before .before .before .before .before .before .args .mem .now) (read-bad (c .before .before .before .before .before .before .before .before .before .before .args .recording .now) (c .before .before .before .before .before .before .before .before .before .before .args .at) (c .before .before .before .before .before .before .read-event .result) (c .before .before .before .before .before .before .read-event .ensures) (c .before .before .before .before .enum-told .given .1)) (c .before .before .put-number .ensures)
 
 play-requires : tie.Need-play-requires
-play-requires c κs = (c .before .before .before .before .before .before .before .before .before .pre .0, good-there (c .before .before .before .before .before .before .before .before .before .args .recording .now) (c .before .before .before .before .before .before .before .before .before .args .at) (c .before .before .before .before .before .read-event .result) (c .before .before .before .before .before .read-event .ensures) (c .before .before .before .e .given .1), c .before .before .before .before .before .before .before .before .before .pre .1)
+play-requires c κs = (c .before .before .before .before .before .before .before .before .before .before .pre .0, good-there (c .before .before .before .before .before .before .before .before .before .before .args .recording .now) (c .before .before .before .before .before .before .before .before .before .before .args .at) (c .before .before .before .before .before .before .read-event .result) (c .before .before .before .before .before .before .read-event .ensures) (c .before .before .before .before .e .given .1), c .before .before .before .before .before .before .before .before .before .before .pre .1)
 
 returns-2 : tie.Need-returns-2
+unfolding threeRates
 returns-2 c =
-    let s = c .before .before .before .before .before .before .before .before .before .before .before .before .before .before .args .recording .now in
-    turned-good threeRates s (c .before .before .before .before .before .before .before .before .before .before .before .before .before .before .args .at) (c .before .before .before .before .before .before .before .before .before .before .before .before .before .before .args .mem .now) (read-good s (c .before .before .before .before .before .before .before .before .before .before .before .before .before .before .args .at) (c .before .before .before .before .before .before .before .before .before .before .read-event .result) (c .before .before .before .before .before .before .before .before .before .before .read-event .ensures) (c .before .before .before .before .before .before .before .before .e .given .1)) (event-lends s (bytes-of s (λ i. c .before .before .before .before .before .before .before .before .before .before .before .before .shared-slice-known .given i .fits)) (c .before .before .before .before .before .before .before .before .e .given .0 .0)) (c .before .before .before .before .play .ensures)
+    let s = c .before .before .before .before .before .before .before .before .before .before .before .before .before .before .before .args .recording .now in
+    turned-good threeRates s (c .before .before .before .before .before .before .before .before .before .before .before .before .before .before .before .args .at) (c .before .before .before .before .before .before .before .before .before .before .before .before .before .before .before .args .mem .now) (read-good s (c .before .before .before .before .before .before .before .before .before .before .before .before .before .before .before .args .at) (c .before .before .before .before .before .before .before .before .before .before .before .read-event .result) (c .before .before .before .before .before .before .before .before .before .before .before .read-event .ensures) (c .before .before .before .before .before .before .before .before .before .e .given .1)) (event-lends s (bytes-of s (λ i. c .before .before .before .before .before .before .before .before .before .before .before .before .before .shared-slice-known .given i .fits)) (c .before .before .before .before .before .before .before .before .before .e .given .0 .0)) (c .before .before .before .before .play .ensures)
 
 pub play-at-spec : {M : Type 1} → statement M
-play-at-spec = tie.close (tie.spec (λ c κs. search needs) (λ c. search needs) (λ c. search needs) put-number-requires (λ c. search needs) returns play-requires (λ c. search needs) (λ c. search needs) returns-2)
+play-at-spec = tie.close (tie.spec (λ c κs. search needs) (λ c. search needs) (λ c. search needs) put-number-requires (λ c. search needs) returns (λ c. search needs) play-requires (λ c. search needs) (λ c. search needs) returns-2)
