@@ -12,13 +12,14 @@ use Rattle.number.specs.Place.{Written}
 use Rattle.recording.specs.Replay.{badEvent, played, output, roomFor, leaves, replayed}
 use Rattle.answers.specs.Put.{Put}
 use Rattle.answers.proofs.Put.{put-number, put-same}
+use Rattle.recording_sizes.specs.Sizes.{longest, perByte, beyond}
 
 module _ (s : List ℕ) where
   pub long-room : 32768 < length s → roomFor s ≡ 2
   unfolding roomFor
   long-room h = rw (lt-ltb 32768 (length s) h)
 
-  pub short-room : length s ≤ 32768 → roomFor s ≡ 19 * length s + 2306
+  pub short-room : length s ≤ longest → roomFor s ≡ perByte * length s + beyond
   unfolding roomFor
   short-room h = rw (le-ltb 32768 (length s) h)
 
@@ -49,7 +50,7 @@ module _ (s out : List ℕ) {room : ℕ} (is : room ≡ roomFor s) where
 
     -- any other
     module _ (short : length s ≤ 32768) where
-      pub all-fits : 19 * length s + 2306 ≤ length out
+      pub all-fits : perByte * length s + beyond ≤ length out
       all-fits = omega (arith, short-room s short)
 
       pub all-whole : {n : ℕ} {out′ : List ℕ} → Put out 0 (played threeRates (length s) powerOn s 0) n out′ → leaves 0x00 n out′ ≡ replayed s out

@@ -81,6 +81,8 @@ use Rattle.recording.proofs.play_all as f
 use Rattle.recording.proofs.play_all.Statement as stated
 use Rattle.recording.proofs.play_all.Code as code
 use Rattle.recording.proofs.play_all.Code.Mir as mir′
+use Rattle.layout.specs.Sizes.{memorySize}
+use Rattle.recording_sizes.specs.Sizes.{perByte, beyond}
 
 -- the reader's type, over the callees' lifetime
 abbrev B : Lfts 1 → RattleType
@@ -139,7 +141,7 @@ module _ {M : Type 1} (𝓤 : URA M) (H : Heap 𝓤) (A : Atoms 𝓤) (mem : Mem
   Moved = tripleOf 𝓤 H A moved.signature (moved.spec 𝓤 H A mem run)
 
 module _ {M : Type 1} (𝓤 : URA M) (H : Heap 𝓤) (A : Atoms 𝓤) (W : Given 𝓤 H A) (mem : Memory → SProp 𝓤) (run : Routine → Fun 𝓤) (κ₁ : Lft) (q₁ : Share) (b o : ℕ) (γ : GName) (m₀ : List ℕ) (κ : Lft) (q : Share) (s : RefT (List ℕ)) (κ₂ : Lft) (q₂ : Share) (b′ o′ : ℕ) (γ′ : GName) (o₀ : List ℕ)
-    (room₁ : Room u8 (length m₀)) (room : Room u8 (length (now s))) (room₂ : Room u8 (length o₀)) (ok : (m₀ ≡ zeros 9996) × (19 * length (now s) + 2306 ≤ length o₀)) where
+    (room₁ : Room u8 (length m₀)) (room : Room u8 (length (now s))) (room₂ : Room u8 (length o₀)) (ok : (m₀ ≡ zeros memorySize) × (perByte * length (now s) + beyond ≤ length o₀)) where
   abbrev n : ℕ
   n = length (now s)
 
@@ -245,7 +247,7 @@ module _ {M : Type 1} (𝓤 : URA M) (H : Heap 𝓤) (A : Atoms 𝓤) (W : Given
     abbrev one-owns : Fml
     one-owns = owns (MutSlice (named 0) (ν ∷ []) u8 ∷ ShrSlice (named 1) κ u8 ∷ usize ∷ MutSlice (named 2) (ν′ ∷ []) u8 ∷ usize ∷ []) one-arg one-vals
 
-    goes-one : Holds (valid (d .mem)) × (d .place + 2306 ≤ length (d .out)) → ent 𝓤 (⋆ 𝓤 H A (Toks ∷ ‵ one-owns ∷ [])) (One 𝓤 H A mem run .pre to-one)
+    goes-one : Holds (valid (d .mem)) × (d .place + beyond ≤ length (d .out)) → ent 𝓤 (⋆ 𝓤 H A (Toks ∷ ‵ one-owns ∷ [])) (One 𝓤 H A mem run .pre to-one)
     goes-one needed = qed W (Toks ∷ ‵ one-owns ∷ []) ∵ says ! needed $ frame ! $ done !
 
   exits : (d : State) → Moving threeRates (now s) o₀ 0 d → d .place < 2 ^ 64 → ent 𝓤 (⋆ 𝓤 H A (MemAt (d .mem) (length (d .mem)) ∷ ‵ (flft κ₁ q₁) ∷ OutAt (d .out) (length (d .out)) ∷ ‵ (flft κ₂ q₂) ∷ Token ∷ ‵ Own ∷ [])) (Post (vint w64 (d .place)))
@@ -304,7 +306,7 @@ module _ {M : Type 1} (𝓤 : URA M) (H : Heap 𝓤) (A : Atoms 𝓤) (W : Given
         out-room : Room u8 (length (d .out))
         out-room = subst (Room u8) (sym (out-length (ok .1) p)) room₂
 
-        asked : Holds (valid (d .mem)) × (d .place + 2306 ≤ length (d .out))
+        asked : Holds (valid (d .mem)) × (d .place + beyond ≤ length (d .out))
         asked = (p .playing .ok, room-at (ok .1) p)
 
         -- a turn that plays one number
