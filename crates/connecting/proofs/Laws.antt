@@ -10,16 +10,14 @@ use borrow.Author.Tests.{eq-eqb, ne-eqb}
 use borrow.Rule.Slice.PartMut.{putMid}
 use Rattle.codec.specs.Plain.{member, zeros}
 use Rattle.codec.specs.Word.{word}
-use Rattle.codec.specs.Code.{byte, word32, both, bothOn, via, such, mark, many, slot, getSlot, vacant, upTo, upToOne, beside, eachVia}
+use Rattle.codec.specs.Code.{via, slot, getSlot}
 use Rattle.machine.specs.Codes.{codeOf}
-use Rattle.machine.specs.Filter.{noneYet}
 use Rattle.machine.specs.Channel.{Chan, closed, Outcome, says, unless, doneWith, isFlags, isOpen, connectCode, fresh, onConnect, onOpen, disconnect}
 use Rattle.layout.specs.Sizes.{regionSize, flagsAt, rateAt, loopbackAt, numberSize}
-use Rattle.layout.specs.Record.{row, body, rec36, outCell, inCell}
-use Rattle.layout.specs.Memory.{config, filterColumns, filters, periodicColumns, periodics, sendingPart, receivingPart, rest, openPart, chanBack, region}
+use Rattle.layout.specs.Memory.{openPart, chanBack, region}
 use Rattle.layout.specs.Promise.{gives, Opened, regionGives, callOutcome}
 use Rattle.layout.proofs.Memory.{region-lawful}
-use Rattle.layout.proofs.Sizes.{region-size}
+use Rattle.layout.proofs.Sizes.{region-size, closed-zeros, fresh-is}
 use Rattle.layout.proofs.Tables as tables
 use Rattle.layout.proofs.Region.{moves}
 
@@ -56,16 +54,6 @@ module _ (rates : List ℕ) (p f r : ℕ) (more : List (Bool × ℕ)) where
   pub no-more-tests : (connectCode rates p f r [] ≡ 0 → ⊥) → connectCode rates p f r more ≡ connectCode rates p f r []
   unfolding connectCode
   no-more-tests = tables.no-more-tests three more
-
--- a closed channel's region is zeros
-pub closed-zeros : region .put closed ≡ zeros regionSize
-unfolding region openPart rest bothOn receivingPart sendingPart config periodics periodicColumns filters filterColumns outCell inCell rec36 body row mark via such both many slot vacant upTo upToOne beside eachVia word32 byte
-closed-zeros = refl
-
--- a fresh channel's region: the mark, the flags, the rate, zeros
-pub fresh-is : (flags rate : ℕ) → region .put (fresh flags rate) ≡ 1 ∷ (word flags ++ (word rate ++ zeros (regionSize - loopbackAt)))
-unfolding fresh noneYet region openPart rest bothOn receivingPart sendingPart config periodics periodicColumns filters filterColumns outCell inCell rec36 body row mark via such both many slot vacant upTo upToOne beside eachVia word32 byte word
-fresh-is flags rate = refl
 
 -- refused: by the tests, or since it is open
 unless-code : (k : ℕ) (c : Chan) (b : List ℕ) (x : Outcome) → (k ≡ 0 → ⊥) → unless k c b x ≡ (c, says k 0 b)

@@ -24,13 +24,12 @@ use Rattle.layout.specs.Sizes.{numberSize, regionAt, regionSize, regionsSize}
 use Rattle.layout.specs.Memory.{region, image, load, valid}
 use Rattle.layout.specs.Promise.{gives, outcome, Opened, regionGives}
 use Rattle.layout.proofs.Memory.{ok-load, region-lawful}
-use Rattle.layout.proofs.Sizes.{region-size}
+use Rattle.layout.proofs.Sizes.{region-size, closed-zeros}
 use Rattle.layout.proofs.Region.{openOf, is-open}
 use Rattle.layout.proofs.Tables.{failed}
 use Rattle.layout.proofs.Calls.{fine-step}
 use Rattle.layout.proofs.Places.{chans-place, chans-ok, clock-place}
 use Rattle.layout.proofs.Entry.{memory-put, is-put, by-step, unmoved, entered, four, region-got, closed-here, opened-here, lies, clock-is}
-use Rattle.connecting.proofs.Laws.{closed-zeros}
 
 -- an advance of over a second leaves a channel
 refused-advance : (us : ℕ) → mostAdvance < us → (x : Chan) → onAdvance us x ≡ x

@@ -18,6 +18,7 @@ use Rattle.machine.specs.Limits.{lines, mostWritten, mostToRead}
 use Rattle.layout.specs.Sizes.{numberSize, configSize, filtersSize, periodicsSize, writtenSize, flightSize, queueSize, sendingSize, receivingSize, flagsAt, filtersAt, periodicsAt, receivingAt, regionSize, memorySize}
 use Rattle.layout.specs.Record.{outCell, inCell}
 use Rattle.layout.specs.Memory.{configFits, config, filters, periodics, sendingPart, receivingPart, rest, openPart, region, memory, valid}
+use Rattle.layout.proofs.Places.{Behind}
 use Rattle.layout.proofs.Sizes.{filters-size, periodics-size, written-size, queue-size, sending-size, config-size, memory-size}
 use Rattle.stored_records.specs.Held.{cell}
 use Rattle.ten_places.specs.Place.{placesValid}
@@ -63,15 +64,17 @@ module _ (flags : ℕ) where
       ∙ ap (λ (b : Bool). upTo mostToRead (inCell flags) .valid (take queueSize m) && b) (mark-is (drop queueSize m) (less queueSize m t) ∙ ap (λ (k : ℕ). leb k 1) (at-rest queueSize m)))
 
   -- what lies behind the configuration, each part where it begins in the region
-  rest-flat : (m : List ℕ) → length m ≡ regionSize
-      → rest flags .valid (drop filtersAt m)
-      ≡ (placesValid false flags (take filtersSize (drop filtersAt m))
-      && (sendingPart flags .valid (take sendingSize (drop periodicsAt m)) && receivingPart flags .valid (take receivingSize (drop receivingAt m))))
+  abbrev pub restTests : List ℕ → Bool
+  restTests m =
+      placesValid false flags (take filtersSize (drop filtersAt m))
+      && (sendingPart flags .valid (take sendingSize (drop periodicsAt m)) && receivingPart flags .valid (take receivingSize (drop receivingAt m)))
+
+  rest-flat : (m : List ℕ) → length m ≡ regionSize → rest flags .valid (drop filtersAt m) ≡ restTests m
   unfolding rest placesValid
   rest-flat m h =
-      both-is (filters flags) (both (sendingPart flags) (receivingPart flags)) filtersSize (drop filtersAt m) (filters-size flags)
+      both-is (filters flags) (Behind flags) filtersSize (drop filtersAt m) (filters-size flags)
       ∙ ap (λ (b : Bool). filters flags .valid (take filtersSize (drop filtersAt m)) && b)
-      (ap (λ (x : List ℕ). both (sendingPart flags) (receivingPart flags) .valid x) (drop-drop filtersSize filtersAt m)
+      (ap (λ (x : List ℕ). Behind flags .valid x) (drop-drop filtersSize filtersAt m)
       ∙ both-is (sendingPart flags) (receivingPart flags) sendingSize (drop periodicsAt m) (sending-size flags)
       ∙ ap (λ (x : List ℕ). sendingPart flags .valid (take sendingSize (drop periodicsAt m)) && receivingPart flags .valid x)
       (drop-drop sendingSize periodicsAt m ∙ sym (rest-part receivingAt receivingSize m h)))
@@ -86,11 +89,7 @@ unfolding config such via
 config-key m = first-word (take configSize (drop flagsAt m)) ∙ word-take (drop flagsAt m) ∙ word-drop 0 flagsAt m
 
 pub open-flat : (m : List ℕ) → length m ≡ regionSize
-    → (config .valid (take configSize (drop flagsAt m))
-    && (placesValid false (wordAt flagsAt m) (take filtersSize (drop filtersAt m))
-    && (sendingPart (wordAt flagsAt m) .valid (take sendingSize (drop periodicsAt m))
-    && receivingPart (wordAt flagsAt m) .valid (take receivingSize (drop receivingAt m)))))
-    ≡ openPart .valid (drop flagsAt m)
+    → (config .valid (take configSize (drop flagsAt m)) && restTests (wordAt flagsAt m) m) ≡ openPart .valid (drop flagsAt m)
 unfolding openPart via bothOn
 open-flat m h =
     let c : Bool = config .valid (take configSize (drop flagsAt m)) in
