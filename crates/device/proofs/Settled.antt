@@ -1,4 +1,5 @@
--- ANY TWO OUTCOMES OF A PUBLIC CALL ARE EQUAL: said of each of the 17 calls, over the very postcondition that its function is proved to meet.
+-- ANY TWO OUTCOMES OF A PUBLIC CALL ARE EQUAL: said of each of the 17 calls and of the look at the memory, over the very postcondition that the
+-- function is proved to meet.
 -- An outcome is what the function returns and what it leaves in the memory and in a lent buffer. Assumes nothing.
 use mathlib.Core.Path.{sym, ap, _∙_}
 use Prim.Native.Nat.{ℕ}
@@ -8,6 +9,8 @@ use denote.Triple.Clauses.{Lasts, atExit}
 use borrow.Fn.Kinds.{PK, RK, Out, Dens, resT, endedOf}
 use Rattle.codec.specs.Settled.{Settled}
 use Rattle.layout.specs.Promise.{Result}
+use Rattle.validity.proofs.valid.Kinds as valid-kinds
+use Rattle.validity.proofs.valid.Reads as valid
 use Rattle.device_channels.proofs.connect.Kinds as connect-kinds
 use Rattle.device_channels.proofs.connect.Reads as connect
 use Rattle.device_channels.proofs.get.Kinds as get-kinds
@@ -51,6 +54,9 @@ Outcome n ps r κs a = resT r κs .Denot × Lasts (endedOf n ps r) κs a
 abbrev pub OneOutcome : (n : ℕ) (ps : List (PK n)) (r : RK n) → Out n ps r → Type 0
 OneOutcome n ps r post =
     (κs : Lfts n) (a : Dens κs ps) → Settled {A = Outcome n ps r κs a} (λ x. post κs a (x .0) (atExit (endedOf n ps r) κs a (x .1)))
+
+pub valid-settled : OneOutcome 1 valid-kinds.ps valid-kinds.r valid.Post
+valid-settled κs a x y p q = ap (λ s. (s, x .1)) (p ∙ sym q)
 
 pub connect-settled : OneOutcome 1 connect-kinds.ps connect-kinds.r connect.Post
 connect-settled κs a x y p q = ap (λ (s : Result). (record { code = s .code; value = s .value }, (s .memory, x .1 .1))) (p ∙ sym q)

@@ -1,4 +1,5 @@
-// The 17 public calls of the box, on any bytes that are lent as its memory: each looks at the memory first, then does the call.
+// The 17 public calls of the box, on any bytes that are lent as its memory: each looks at the memory first, then does the call. The look itself
+// is `valid`.
 pub use device_channels::clear;
 pub use device_channels::connect;
 pub use device_channels::disconnect;
@@ -17,3 +18,4 @@ pub use device_traffic::sent;
 pub use device_traffic::take;
 pub use device_traffic::write;
 pub use places::MEMORY;
+pub use validity::valid;
