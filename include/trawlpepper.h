@@ -100,6 +100,7 @@ extern "C" {
 #define TRAWL_CLEAR_PERIODICS 3u /* all periodics; their numbers are free */
 #define TRAWL_CLEAR_FILTERS 4u   /* all filters; nothing more is let in */
 
+/* J2534-1's IOCTL numbers: for trawl_clear_kind, not for trawl_clear. */
 #define TRAWL_CLEAR_TX_BUFFER 0x07u
 #define TRAWL_CLEAR_RX_BUFFER 0x08u
 #define TRAWL_CLEAR_PERIODIC_MSGS 0x09u
@@ -198,7 +199,7 @@ static inline uint32_t trawl_clear_kind(uint32_t ioctl) {
  *   - A channel just connected has no filter, and no filter lets nothing in. A frame is queued if a pass filter matches and no block filter
  *   does, in whatever order they were started. Block filters alone let nothing in either. Echoes go past all filters.
  *   - A filter matches a frame of its own width if, for each byte below its size, frame byte AND mask byte equals the pattern byte. THE PATTERN
- *   ISN'T MASKED: a bit that is 1 in the pattern and 0 in the mask makes a filter that matches nothing, and no code tells.
+ *   ISN'T MASKED: a bit (below the size) that is 1 in the pattern and 0 in the mask makes a filter that matches nothing, and no code tells.
  *   - The bytes are the four of the identifier, highest first, then the data. A byte that the frame doesn't have counts as zero.
  *   - The TxFlags of mask and pattern decide the width: with 0x100 the filter is for wide frames alone, without for narrow ones alone. On a
  *   connection that takes both widths it takes two filters to let all in.
@@ -234,7 +235,8 @@ static inline uint32_t trawl_clear_kind(uint32_t ioctl) {
 /* ---- the calls ----
  *
  * Each has its codes listed in the order of its checks: the first that holds is the answer, and 0x00 where none does. Power-on aside, every call
- * first looks at the memory: 0x1A where memory_length is not TRAWL_MEMORY or its bytes are not a device memory. Numbers are compared whole. */
+ * that is lent a memory looks at it first: 0x1A where memory_length is not TRAWL_MEMORY or its bytes are not a device memory. Numbers are compared
+ * whole: 257 is not 1. */
 
 /* ---- the box as a whole ---- */
 
