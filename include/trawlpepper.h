@@ -6,23 +6,28 @@
  * code gives none, so that no caller reads a count of an earlier call.
  *
  * Slices pass as a pointer and then a length in bytes. What C cannot check, you guarantee:
- *   - each pointer points to at least as many bytes as the length says (a length of 0 still wants a pointer that is not null);
+ *   - each pointer points to at least as many bytes as the length says; where the length is 0 it may be NULL (no byte is read or written
+ *   through it), and it needs no alignment;
+ *   - the pointer that a number comes back through is not NULL;
  *   - what a call may write (the memory, a buffer that is not const, a number's pointer) overlaps nothing else that is lent to that call;
- *   - one thread at a time uses a memory.
+ *   - one thread at a time uses a memory. Two memories have nothing in common: calls on different ones may run at the same time.
  * Everything else is checked: any bytes, any lengths, any numbers are answered with a code, and a refused call changes neither the memory
  * nor any lent buffer, not a byte of them. A refusal is every code but STATUS_NOERROR and the two results ERR_TIMEOUT and ERR_BUFFER_OVERFLOW;
- * of a write whose count is above 0 any code is a result, and the records counted are queued.
+ * of a write whose count is above 0 any code is a result, and the records counted are queued. What is lent is used during the call and never
+ * after it; what is const is never written.
  *
- *     static uint8_t box[TRAWL_MEMORY], record[TRAWL_RECORD];
- *     static const uint8_t every[TRAWL_RECORD] = {CAN, 0, 0, 0, 0, 0, 0, 0, 0, 0, 0, 0, 0, 0, 0, 0, 4};
+ *     static uint8_t box[TRAWL_MEMORY], every[TRAWL_RECORD], record[TRAWL_RECORD];
  *     static const uint8_t data[3] = {0x02, 0x10, 0x03};
  *     uint32_t channel, filter, count;
  *     trawl_power_on(box, sizeof box);
- *     trawl_connect(box, sizeof box, 0, CAN, 0, 500000, &channel);
- *     trawl_start_filter(box, sizeof box, channel, PASS_FILTER, every, sizeof every, every, sizeof every, &filter);
+ *     trawl_connect(box, sizeof box, 0, TRAWL_CAN, 0, 500000, &channel);
+ *     trawl_record_make(every, 0, 0, NULL, 0);
+ *     trawl_start_filter(box, sizeof box, channel, TRAWL_PASS_FILTER, every, sizeof every, every, sizeof every, &filter);
  *     trawl_frame(box, sizeof box, 0, 0, 0x7E8, data, sizeof data);
- *     if (trawl_read(box, sizeof box, channel, 1, record, sizeof record, &count) == STATUS_NOERROR)
- *         printf("%u bytes from 0x%02X%02X\n", record[16], record[26], record[27]);
+ *     if (trawl_read(box, sizeof box, channel, 1, record, sizeof record, &count) == TRAWL_STATUS_NOERROR)
+ *         printf("%u bytes from 0x%04X\n", (unsigned)trawl_record_size(record), (unsigned)trawl_record_identifier(record));
+ *
+ * A whole program is c/examples/car.c; docs/INTEGRATING.md is the guide for those who build a box.
  */
 #ifndef TRAWLPEPPER_H
 #define TRAWLPEPPER_H
@@ -34,105 +39,298 @@
 extern "C" {
 #endif
 
+/* The version of this header and of the archive built from the same sources. The first number changes when a program or a kept memory that was
+ * good may be so no more, the second when something is added, the third with everything else. TRAWL_VERSION is for comparing. */
+#define TRAWL_VERSION_MAJOR 1
+#define TRAWL_VERSION_MINOR 0
+#define TRAWL_VERSION_PATCH 0
+#define TRAWL_VERSION (TRAWL_VERSION_MAJOR * 10000 + TRAWL_VERSION_MINOR * 100 + TRAWL_VERSION_PATCH)
+
 /* The size of the device memory, of a message record and of a telegram record, and the room for the bytes of a telegram. */
 #define TRAWL_MEMORY 9996u
 #define TRAWL_RECORD 36u
 #define TRAWL_TELEGRAM 32u
 #define TRAWL_TELEGRAM_ROOM 8u
 
+/* Every name of J2534-1 stands here with the prefix TRAWL_. Without it the same names are defined at the end of this file, unless you define
+ * TRAWL_NO_J2534_NAMES before you include it: so the header lives beside a j2534.h of yours, whichever comes first. The numbers are J2534-1's
+ * either way. */
+
 /* Codes, by J2534-1's names. */
-#define STATUS_NOERROR 0x00u
-#define ERR_NOT_SUPPORTED 0x01u         /* unknown configuration parameter */
-#define ERR_INVALID_CHANNEL_ID 0x02u    /* channel number not 1 to 4, or not open */
-#define ERR_INVALID_PROTOCOL_ID 0x03u   /* connect: protocol is not 5 */
-#define ERR_NULL_PARAMETER 0x04u        /* lent buffer too short */
-#define ERR_INVALID_IOCTL_VALUE 0x05u   /* bad value for a known parameter */
-#define ERR_INVALID_FLAGS 0x06u         /* connect: a flag other than 0x100, 0x800 */
-#define ERR_FAILED 0x07u                /* sent with nothing in flight */
-#define ERR_TIMEOUT 0x09u               /* read: some records, fewer than asked (a result) */
-#define ERR_INVALID_MSG 0x0Au           /* bad message, frame or telegram */
-#define ERR_INVALID_TIME_INTERVAL 0x0Bu /* interval not 5 to 65,535 ms; advance over 1,000,000 us */
-#define ERR_EXCEEDED_LIMIT 0x0Cu        /* ten filters or ten periodics exist */
-#define ERR_INVALID_MSG_ID 0x0Du        /* no periodic of that number on this channel */
-#define ERR_INVALID_IOCTL_ID 0x0Fu      /* clear of an unknown kind */
-#define ERR_BUFFER_EMPTY 0x10u          /* read: no record; take: no frame */
-#define ERR_BUFFER_FULL 0x11u           /* write: no room */
-#define ERR_BUFFER_OVERFLOW 0x12u       /* records were lost since the last report (a result) */
-#define ERR_PIN_INVALID 0x13u           /* line over 3 */
-#define ERR_CHANNEL_IN_USE 0x14u        /* the line's channel is already open */
-#define ERR_MSG_PROTOCOL_ID 0x15u       /* protocol field of a message is not 5 */
-#define ERR_INVALID_FILTER_ID 0x16u     /* filter type not 1 or 2; no filter of that number on this channel */
-#define ERR_INVALID_BAUDRATE 0x19u      /* connect: rate not 125,000, 250,000 or 500,000 */
-#define ERR_INVALID_DEVICE_ID 0x1Au     /* device memory of the wrong size, or not valid */
+#define TRAWL_STATUS_NOERROR 0x00u
+#define TRAWL_ERR_NOT_SUPPORTED 0x01u         /* unknown configuration parameter */
+#define TRAWL_ERR_INVALID_CHANNEL_ID 0x02u    /* channel number not 1 to 4, or not open */
+#define TRAWL_ERR_INVALID_PROTOCOL_ID 0x03u   /* connect: protocol is not 5 */
+#define TRAWL_ERR_NULL_PARAMETER 0x04u        /* lent buffer too short */
+#define TRAWL_ERR_INVALID_IOCTL_VALUE 0x05u   /* bad value for a known parameter */
+#define TRAWL_ERR_INVALID_FLAGS 0x06u         /* connect: a flag other than 0x100, 0x800 */
+#define TRAWL_ERR_FAILED 0x07u                /* sent with nothing in flight */
+#define TRAWL_ERR_TIMEOUT 0x09u               /* read: some records, fewer than asked (a result) */
+#define TRAWL_ERR_INVALID_MSG 0x0Au           /* bad message, frame or telegram */
+#define TRAWL_ERR_INVALID_TIME_INTERVAL 0x0Bu /* interval not 5 to 65,535 ms; advance over 1,000,000 us */
+#define TRAWL_ERR_EXCEEDED_LIMIT 0x0Cu        /* ten filters or ten periodics exist */
+#define TRAWL_ERR_INVALID_MSG_ID 0x0Du        /* no periodic of that number on this channel */
+#define TRAWL_ERR_INVALID_IOCTL_ID 0x0Fu      /* clear of an unknown kind */
+#define TRAWL_ERR_BUFFER_EMPTY 0x10u          /* read: no record; take: no frame */
+#define TRAWL_ERR_BUFFER_FULL 0x11u           /* write: no room */
+#define TRAWL_ERR_BUFFER_OVERFLOW 0x12u       /* records were lost since the last report (a result) */
+#define TRAWL_ERR_PIN_INVALID 0x13u           /* line over 3 */
+#define TRAWL_ERR_CHANNEL_IN_USE 0x14u        /* the line's channel is already open */
+#define TRAWL_ERR_MSG_PROTOCOL_ID 0x15u       /* protocol field of a message is not 5 */
+#define TRAWL_ERR_INVALID_FILTER_ID 0x16u     /* filter type not 1 or 2; no filter of that number on this channel */
+#define TRAWL_ERR_INVALID_BAUDRATE 0x19u      /* connect: rate not 125,000, 250,000 or 500,000 */
+#define TRAWL_ERR_INVALID_DEVICE_ID 0x1Au     /* device memory of the wrong size, or not valid */
 
 /* Protocol, connection flags, filter types, parameters; RxStatus and TxFlags bits of a record. */
-#define CAN 5u
-#define CAN_29BIT_ID 0x100u
-#define CAN_ID_BOTH 0x800u
-#define PASS_FILTER 1u
-#define BLOCK_FILTER 2u
-#define DATA_RATE 1u
-#define LOOPBACK 3u
-#define TX_MSG_TYPE 0x1u
+#define TRAWL_CAN 5u
+#define TRAWL_CAN_29BIT_ID 0x100u
+#define TRAWL_CAN_ID_BOTH 0x800u
+#define TRAWL_PASS_FILTER 1u
+#define TRAWL_BLOCK_FILTER 2u
+#define TRAWL_DATA_RATE 1u
+#define TRAWL_LOOPBACK 3u
+#define TRAWL_TX_MSG_TYPE 0x1u
 
-/* What a clear empties. */
-#define TRAWL_CLEAR_WRITTEN 1u
-#define TRAWL_CLEAR_RECEIVED 2u
-#define TRAWL_CLEAR_PERIODICS 3u
-#define TRAWL_CLEAR_FILTERS 4u
+/* What a clear empties: the kinds that trawl_clear takes. J2534-1's own numbers for the same are those of four IOCTLs, and trawl_clear takes
+ * them for unknown kinds (0x0F):
+ *   CLEAR_TX_BUFFER 0x07 is kind 1, CLEAR_RX_BUFFER 0x08 is kind 2, CLEAR_PERIODIC_MSGS 0x09 is kind 3, CLEAR_MSG_FILTERS 0x0A is kind 4.
+ * trawl_clear_kind makes the one of the other. */
+#define TRAWL_CLEAR_WRITTEN 1u   /* written records that are not in flight */
+#define TRAWL_CLEAR_RECEIVED 2u  /* the receive queue and the lost mark */
+#define TRAWL_CLEAR_PERIODICS 3u /* all periodics; their numbers are free */
+#define TRAWL_CLEAR_FILTERS 4u   /* all filters; nothing more is let in */
+
+/* J2534-1's IOCTL numbers: for trawl_clear_kind, not for trawl_clear. */
+#define TRAWL_CLEAR_TX_BUFFER 0x07u
+#define TRAWL_CLEAR_RX_BUFFER 0x08u
+#define TRAWL_CLEAR_PERIODIC_MSGS 0x09u
+#define TRAWL_CLEAR_MSG_FILTERS 0x0Au
+
+/* ---- a message record ----
+ *
+ * 36 bytes, each number lowest byte first, but the identifier highest byte first:
+ *
+ *   bytes      field         in a record that you lend        as take gives it     as read gives it
+ *   0 to 3     protocol      5, else 0x15                     5                    5
+ *   4 to 7     RxStatus      ignored                          0                    0x100 if wide, plus 1 if an echo
+ *   8 to 11    TxFlags       0x100 says wide; see below       0x100 if wide        0
+ *   12 to 15   timestamp     ignored                          0                    the clock when it came, in microseconds
+ *   16 to 19   data size     4 to 12; 1 to 12 in a filter     4 to 12              4 to 12
+ *   20 to 23   extra index   ignored                          the data size        the data size
+ *   24 to 27   identifier    at most 0x7FF, or 0x1FFFFFFF     the same             the same
+ *   28 to 35   data          ignored from the size on         zeros after it       zeros after it
+ *
+ * The data size counts the identifier's four bytes, so a frame with n data bytes has n + 4. Wide means a 29-bit identifier, narrow one of 11
+ * bits. Other bits of TxFlags are ignored in a message; in mask and pattern of a filter both TxFlags must be the same number, and the identifier
+ * may be any. A connection with CAN_ID_BOTH takes both widths; otherwise it takes only wide ones with CAN_29BIT_ID, and only narrow ones without.
+ *
+ * The functions below read and write such records byte by byte, on any processor, with no struct laid over them. Those that read want 36
+ * bytes. */
+
+static inline uint32_t trawl_load32(const uint8_t *at) {
+    return (uint32_t)at[0] | (uint32_t)at[1] << 8 | (uint32_t)at[2] << 16 | (uint32_t)at[3] << 24;
+}
+
+static inline void trawl_store32(uint8_t *at, uint32_t number) {
+    at[0] = (uint8_t)(number & 0xFFu);
+    at[1] = (uint8_t)(number >> 8 & 0xFFu);
+    at[2] = (uint8_t)(number >> 16 & 0xFFu);
+    at[3] = (uint8_t)(number >> 24 & 0xFFu);
+}
+
+/* A record with these TxFlags and n bytes, the identifier's four among them, over all 36 bytes: the mask or pattern of a filter of any size. Of
+ * more than 12 bytes none beyond the twelfth is read, and the record is one that every call refuses with 0x0A. */
+static inline void trawl_record_bytes(uint8_t *record, uint32_t tx_flags, const uint8_t *bytes, size_t n) {
+    uint32_t size = n > 12u ? 0xFFFFFFFFu : (uint32_t)n;
+    size_t i;
+    trawl_store32(record, TRAWL_CAN);
+    trawl_store32(record + 4, 0u);
+    trawl_store32(record + 8, tx_flags);
+    trawl_store32(record + 12, 0u);
+    trawl_store32(record + 16, size);
+    trawl_store32(record + 20, size);
+    for (i = 0u; i < 12u; i++) record[24u + i] = i < n ? bytes[i] : (uint8_t)0u;
+}
+
+/* A record of a frame with n data bytes (0 to 8), over all 36 bytes: a message to send, or mask or pattern of a filter on the identifier and the
+ * first n data bytes. wide is 0 or not. Of more than 8 data bytes none beyond the eighth is read, and every call refuses the record with 0x0A. */
+static inline void trawl_record_make(uint8_t *record, uint32_t wide, uint32_t identifier, const uint8_t *data, size_t n) {
+    uint8_t bytes[12];
+    size_t i;
+    bytes[0] = (uint8_t)(identifier >> 24 & 0xFFu);
+    bytes[1] = (uint8_t)(identifier >> 16 & 0xFFu);
+    bytes[2] = (uint8_t)(identifier >> 8 & 0xFFu);
+    bytes[3] = (uint8_t)(identifier & 0xFFu);
+    for (i = 0u; i < 8u; i++) bytes[4u + i] = i < n ? data[i] : (uint8_t)0u;
+    trawl_record_bytes(record, wide ? TRAWL_CAN_29BIT_ID : 0u, bytes, n > 8u ? (size_t)13u : n + 4u);
+}
+
+static inline uint32_t trawl_record_protocol(const uint8_t *record) { return trawl_load32(record); }
+static inline uint32_t trawl_record_rx_status(const uint8_t *record) { return trawl_load32(record + 4); }
+static inline uint32_t trawl_record_tx_flags(const uint8_t *record) { return trawl_load32(record + 8); }
+static inline uint32_t trawl_record_time(const uint8_t *record) { return trawl_load32(record + 12); }
+static inline uint32_t trawl_record_size(const uint8_t *record) { return trawl_load32(record + 16); }
+static inline uint32_t trawl_record_extra(const uint8_t *record) { return trawl_load32(record + 20); }
+
+static inline uint32_t trawl_record_identifier(const uint8_t *record) {
+    return (uint32_t)record[24] << 24 | (uint32_t)record[25] << 16 | (uint32_t)record[26] << 8 | (uint32_t)record[27];
+}
+
+/* The data bytes behind the identifier, and how many there are: 0 to 8, whatever the record's size says. */
+static inline const uint8_t *trawl_record_data(const uint8_t *record) { return record + 28; }
+static inline size_t trawl_record_data_size(const uint8_t *record) {
+    uint32_t size = trawl_record_size(record);
+    return size < 4u ? 0u : size > 12u ? 8u : (size_t)(size - 4u);
+}
+
+/* 1 if a record that read or take gave is wide, else 0; 1 if one that read gave is the echo of a frame that the box sent, else 0. */
+static inline uint32_t trawl_record_wide(const uint8_t *record) {
+    return ((trawl_record_rx_status(record) | trawl_record_tx_flags(record)) & TRAWL_CAN_29BIT_ID) != 0u ? 1u : 0u;
+}
+static inline uint32_t trawl_record_echo(const uint8_t *record) { return trawl_record_rx_status(record) & TRAWL_TX_MSG_TYPE; }
+
+/* The kind for trawl_clear of one of J2534-1's four IOCTL numbers for clear; 0, which trawl_clear refuses with 0x0F, of any other number. */
+static inline uint32_t trawl_clear_kind(uint32_t ioctl) {
+    return ioctl < TRAWL_CLEAR_TX_BUFFER || ioctl > TRAWL_CLEAR_MSG_FILTERS ? 0u : ioctl - 6u;
+}
+
+/* ---- filters ----
+ *
+ *   - A channel just connected has no filter, and no filter lets nothing in. A frame is queued if a pass filter matches and no block filter
+ *   does, in whatever order they were started. Block filters alone let nothing in either. Echoes go past all filters.
+ *   - A filter matches a frame of its own width if, for each byte below its size, frame byte AND mask byte equals the pattern byte. THE PATTERN
+ *   ISN'T MASKED: a bit (below the size) that is 1 in the pattern and 0 in the mask makes a filter that matches nothing, and no code tells.
+ *   - The bytes are the four of the identifier, highest first, then the data. A byte that the frame doesn't have counts as zero.
+ *   - The TxFlags of mask and pattern decide the width: with 0x100 the filter is for wide frames alone, without for narrow ones alone. On a
+ *   connection that takes both widths it takes two filters to let all in.
+ *   - A channel has at most ten, pass and block together. Starting and stopping filters leaves what is queued. */
+
+/* ---- the driver's loop ----
+ *
+ * You write the functions of the controller: whether it received a frame (and which), whether it has sent the frame it was handed since you
+ * last asked, whether it is idle, and the handing over. This may run in a main loop as often as you like:
+
+    uint32_t line, wide, id, us = microseconds_since_last_time();
+    for (; us > 1000000u; us -= 1000000u) trawl_advance(box, sizeof box, 1000000u);
+    trawl_advance(box, sizeof box, us);
+    for (line = 0u; line < 4u; line++) {
+        while (controller_received(line, &wide, &id, data, &n)) trawl_frame(box, sizeof box, line, wide, id, data, n);
+        if (controller_has_sent(line)) trawl_sent(box, sizeof box, line + 1u);
+        if (controller_idle(line) && trawl_take(box, sizeof box, line + 1u, record, sizeof record) == TRAWL_STATUS_NOERROR)
+            controller_send(line, trawl_record_wide(record), trawl_record_identifier(record), trawl_record_data(record),
+                            trawl_record_data_size(record));
+    }
+
+ * A frame that was taken is in flight: one a channel, and it stays so until it is sent, or the channel is disconnected. While it is, take gives
+ * the same 36 bytes again, and nothing behind it moves. So:
+ *   - Where the controller FAILS TO SEND (arbitration lost, no acknowledgement, bus off), call nothing. The next take gives the frame again, and
+ *   handing it over again is the retry. J2534-1 wants that retries go on until they succeed or the application stops them.
+ *   - To GIVE IT UP, empty the flight: with loopback off call trawl_sent. With loopback on that would queue an echo of a frame that was never on
+ *   the line: set LOOPBACK to 0, call trawl_sent, set it to 1 again. Clear and stopping a periodic leave the flight, so where J2534-1's
+ *   CLEAR_TX_BUFFER is to stop retries, do this after trawl_clear, and take the frame back from the controller first.
+ *   - On disconnect and close take back what the controller still holds: the flight is gone, and a trawl_sent for it would answer 0x07, or, where
+ *   a frame was taken since, speak of that one.
+ *   - With loopback on the box makes the echo, at the sent. Don't hand your own frames to trawl_frame as well. */
+
+/* ---- the calls ----
+ *
+ * Each has its codes listed in the order of its checks: the first that holds is the answer, and 0x00 where none does. Power-on aside, every call
+ * that is lent a memory looks at it first: 0x1A where memory_length is not TRAWL_MEMORY or its bytes are not a device memory. Numbers are compared
+ * whole: 257 is not 1. */
 
 /* ---- the box as a whole ---- */
 
-/* 1 where these bytes are a device memory, else 0. */
+/* 1 where these bytes are a device memory, else 0. Writes nothing. */
 uint32_t trawl_valid(const uint8_t *memory, size_t memory_length);
 
-/* Any bytes of the right size become the memory of a box just switched on: nothing open, clock 0. */
+/* Any bytes of the right size become the memory of a box just switched on: nothing open, clock 0.
+ * Codes: 0x1A for another size. */
 uint32_t trawl_power_on(uint8_t *memory, size_t memory_length);
 
-/* Opens the raw CAN channel of a line (0 to 3) and gives its number, the line plus 1. */
+/* Opens the raw CAN channel of a line (0 to 3) and gives its number, the line plus 1. The new channel is empty: no filters, no periodics, nothing
+ * queued, loopback 0.
+ * Codes: 0x1A; 0x03 protocol is not 5; 0x06 a flag bit other than 0x100 and 0x800; 0x19 rate is not 125000, 250000 or 500000; 0x13 line over 3;
+ * 0x14 the channel is open. */
 uint32_t trawl_connect(uint8_t *memory, size_t memory_length, uint32_t line, uint32_t protocol, uint32_t flags, uint32_t rate,
                        uint32_t *channel);
 
-/* Disconnects every channel. The clock runs on. */
+/* Disconnects every channel, frames in flight too. The clock runs on.
+ * Codes: 0x1A. */
 uint32_t trawl_close(uint8_t *memory, size_t memory_length);
 
-/* Time goes on by 0 to 1,000,000 microseconds, for the clock and every periodic. */
+/* Time goes on by 0 to 1,000,000 microseconds, for the clock (modulo 2^32) and every periodic: one that reaches one or more of its due times is
+ * pending, once. No other call moves time.
+ * Codes: 0x1A; 0x0B over 1,000,000, and no time passes. */
 uint32_t trawl_advance(uint8_t *memory, size_t memory_length, uint32_t microseconds);
 
-/* A frame came in on a line: wide is 0 (11 bits) or 1 (29 bits), data has 0 to 8 bytes. */
+/* A frame came in on a line: wide is 0 (11 bits) or 1 (29 bits), data has 0 to 8 bytes. It is queued as a record with the clock as its timestamp
+ * if the line's channel is open, takes the width, and its filters let it in; else it is dropped, and 0x00 is the answer all the same. Where 32
+ * records wait already it is dropped and the lost mark is set, again with 0x00: the next read tells.
+ * Codes: 0x1A; 0x13 line over 3; 0x0A wide over 1, identifier over 0x7FF or (wide) 0x1FFFFFFF, or data_length over 8. */
 uint32_t trawl_frame(uint8_t *memory, size_t memory_length, uint32_t line, uint32_t wide, uint32_t identifier, const uint8_t *data,
                      size_t data_length);
 
 /* ---- calls on a channel ---- */
 
+/* Closes the channel: everything in it is gone, the frame in flight too.
+ * Codes: 0x1A; 0x02 channel not 1 to 4, or not open. */
 uint32_t trawl_disconnect(uint8_t *memory, size_t memory_length, uint32_t channel);
 
-/* mask and pattern are records of 36 bytes. Gives the filter's number, 1 to 10. */
+/* Starts a filter, type 1 (pass) or 2 (block); mask and pattern are records of 36 bytes, and what counts of them is copied. Gives the filter's
+ * number, the smallest free one of 1 to 10.
+ * Codes: 0x1A; 0x02; 0x04 mask or pattern under 36 bytes; 0x16 type not 1 or 2; 0x15 protocol of mask or pattern is not 5; 0x0A sizes not equal
+ * or not 1 to 12, TxFlags not equal, or a width that the connection doesn't take; 0x0C ten filters exist on the channel. */
 uint32_t trawl_start_filter(uint8_t *memory, size_t memory_length, uint32_t channel, uint32_t type, const uint8_t *mask,
                             size_t mask_length, const uint8_t *pattern, size_t pattern_length, uint32_t *number);
+
+/* Stops the filter of a number; the others keep theirs.
+ * Codes: 0x1A; 0x02; 0x16 no filter of that number on this channel. */
 uint32_t trawl_stop_filter(uint8_t *memory, size_t memory_length, uint32_t channel, uint32_t number);
 
-/* message is a record, interval 5 to 65,535 milliseconds. Gives the periodic's number, 1 to 10. */
+/* Starts a periodic; message is a record of 36 bytes, which is copied, interval 5 to 65,535 milliseconds. It is pending at once and then at each
+ * whole multiple of the interval after its start, however late it is taken or sent. Gives its number, the smallest free one of 1 to 10.
+ * Codes: 0x1A; 0x02; 0x04 message under 36 bytes; 0x0B interval not 5 to 65,535; 0x15 protocol is not 5; 0x0A size not 4 to 12, a width that the
+ * connection doesn't take, or an identifier too large for its width; 0x0C ten periodics exist on the channel. */
 uint32_t trawl_start_periodic(uint8_t *memory, size_t memory_length, uint32_t channel, const uint8_t *message, size_t message_length,
                               uint32_t interval, uint32_t *number);
+
+/* Stops the periodic of a number; the others keep theirs. What it has in flight stays there.
+ * Codes: 0x1A; 0x02; 0x0D no periodic of that number on this channel. */
 uint32_t trawl_stop_periodic(uint8_t *memory, size_t memory_length, uint32_t channel, uint32_t number);
 
-/* Queues the first n records of a buffer of at least 36 * n bytes, in order, until one is refused. Gives how many were queued. */
+/* Queues the first n records of a buffer of at least 36 * n bytes for sending, in order, until one is refused or 16 are held; they are copied.
+ * Gives how many were queued, and the code of the record that stopped it. With n = 0 the answer is 0x00.
+ * Codes: 0x1A; 0x02; 0x04 under 36 * n bytes; then for each record 0x15 protocol is not 5; 0x0A as for a periodic; 0x11 sixteen are held. A code
+ * with a count above 0 is no refusal: lend the rest again later, from the record that stopped it. */
 uint32_t trawl_write(uint8_t *memory, size_t memory_length, uint32_t channel, uint32_t n, const uint8_t *records, size_t records_length,
                      uint32_t *count);
 
-/* Moves up to n of the oldest received records to the start of a buffer of at least 36 * n bytes. Gives how many. */
+/* Moves up to n of the oldest received records to the start of a buffer of at least 36 * n bytes; the bytes behind them stay. Gives how many.
+ * Codes: 0x1A; 0x02; 0x04 under 36 * n bytes, whatever waits; with n = 0 then 0x00, and nothing changes. Else 0x12 records were lost since the
+ * last report (told once, with the records, be they n, fewer or none: look at the count); 0x00 n records; 0x10 none; 0x09 fewer than n. */
 uint32_t trawl_read(uint8_t *memory, size_t memory_length, uint32_t channel, uint32_t n, uint8_t *buffer, size_t buffer_length,
                     uint32_t *count);
 
-/* The frame to send next, as a record, to the start of a buffer of at least 36 bytes. It stays in flight until it is sent. */
+/* The frame to send next, as a record, to the start of a buffer of at least 36 bytes; the bytes behind it stay. It is in flight until it is sent,
+ * and as long take gives it again. Else the lowest-numbered pending periodic is taken, else the oldest written record.
+ * Codes: 0x1A; 0x02; 0x04 under 36 bytes, whatever waits; 0x10 no frame. */
 uint32_t trawl_take(uint8_t *memory, size_t memory_length, uint32_t channel, uint8_t *buffer, size_t buffer_length);
 
-/* The frame in flight is on the line. */
+/* The frame in flight is on the line: the flight is empty. With loopback on its echo is queued for reading, with the clock as its timestamp, past
+ * all filters; where 32 records wait it is lost, the lost mark is set, and 0x00 is the answer all the same.
+ * Codes: 0x1A; 0x02; 0x07 nothing in flight. */
 uint32_t trawl_sent(uint8_t *memory, size_t memory_length, uint32_t channel);
 
+/* Empties one of four things, TRAWL_CLEAR_WRITTEN and so on; none of them touches the flight.
+ * Codes: 0x1A; 0x02; 0x0F kind not 1 to 4. */
 uint32_t trawl_clear(uint8_t *memory, size_t memory_length, uint32_t channel, uint32_t kind);
+
+/* The value of DATA_RATE (1) or LOOPBACK (3). Writes nothing but the value.
+ * Codes: 0x1A; 0x02; 0x01 another parameter. */
 uint32_t trawl_get(const uint8_t *memory, size_t memory_length, uint32_t channel, uint32_t parameter, uint32_t *value);
+
+/* A new value: DATA_RATE 125000, 250000 or 500000, LOOPBACK 0 or 1. Nothing else of the channel changes.
+ * Codes: 0x1A; 0x02; 0x01 another parameter, whatever the value; 0x05 another value. */
 uint32_t trawl_set(uint8_t *memory, size_t memory_length, uint32_t channel, uint32_t parameter, uint32_t value);
 
 /* ---- TP2.0 telegrams (SAE J2819) ---- */
@@ -181,6 +379,46 @@ uint32_t trawl_time(uint8_t byte);
  * output has; a bad event ends it with the number 255, and a recording of more than 32,768 bytes counts as one. The replay has a memory of its
  * own, TRAWL_MEMORY bytes on the stack. */
 uint32_t trawl_replay(const uint8_t *recording, size_t recording_length, uint8_t *out, size_t out_length, size_t *length);
+
+/* ---- J2534-1's names without the prefix ---- */
+
+#ifndef TRAWL_NO_J2534_NAMES
+#define STATUS_NOERROR TRAWL_STATUS_NOERROR
+#define ERR_NOT_SUPPORTED TRAWL_ERR_NOT_SUPPORTED
+#define ERR_INVALID_CHANNEL_ID TRAWL_ERR_INVALID_CHANNEL_ID
+#define ERR_INVALID_PROTOCOL_ID TRAWL_ERR_INVALID_PROTOCOL_ID
+#define ERR_NULL_PARAMETER TRAWL_ERR_NULL_PARAMETER
+#define ERR_INVALID_IOCTL_VALUE TRAWL_ERR_INVALID_IOCTL_VALUE
+#define ERR_INVALID_FLAGS TRAWL_ERR_INVALID_FLAGS
+#define ERR_FAILED TRAWL_ERR_FAILED
+#define ERR_TIMEOUT TRAWL_ERR_TIMEOUT
+#define ERR_INVALID_MSG TRAWL_ERR_INVALID_MSG
+#define ERR_INVALID_TIME_INTERVAL TRAWL_ERR_INVALID_TIME_INTERVAL
+#define ERR_EXCEEDED_LIMIT TRAWL_ERR_EXCEEDED_LIMIT
+#define ERR_INVALID_MSG_ID TRAWL_ERR_INVALID_MSG_ID
+#define ERR_INVALID_IOCTL_ID TRAWL_ERR_INVALID_IOCTL_ID
+#define ERR_BUFFER_EMPTY TRAWL_ERR_BUFFER_EMPTY
+#define ERR_BUFFER_FULL TRAWL_ERR_BUFFER_FULL
+#define ERR_BUFFER_OVERFLOW TRAWL_ERR_BUFFER_OVERFLOW
+#define ERR_PIN_INVALID TRAWL_ERR_PIN_INVALID
+#define ERR_CHANNEL_IN_USE TRAWL_ERR_CHANNEL_IN_USE
+#define ERR_MSG_PROTOCOL_ID TRAWL_ERR_MSG_PROTOCOL_ID
+#define ERR_INVALID_FILTER_ID TRAWL_ERR_INVALID_FILTER_ID
+#define ERR_INVALID_BAUDRATE TRAWL_ERR_INVALID_BAUDRATE
+#define ERR_INVALID_DEVICE_ID TRAWL_ERR_INVALID_DEVICE_ID
+#define CAN TRAWL_CAN
+#define CAN_29BIT_ID TRAWL_CAN_29BIT_ID
+#define CAN_ID_BOTH TRAWL_CAN_ID_BOTH
+#define PASS_FILTER TRAWL_PASS_FILTER
+#define BLOCK_FILTER TRAWL_BLOCK_FILTER
+#define DATA_RATE TRAWL_DATA_RATE
+#define LOOPBACK TRAWL_LOOPBACK
+#define TX_MSG_TYPE TRAWL_TX_MSG_TYPE
+#define CLEAR_TX_BUFFER TRAWL_CLEAR_TX_BUFFER
+#define CLEAR_RX_BUFFER TRAWL_CLEAR_RX_BUFFER
+#define CLEAR_PERIODIC_MSGS TRAWL_CLEAR_PERIODIC_MSGS
+#define CLEAR_MSG_FILTERS TRAWL_CLEAR_MSG_FILTERS
+#endif
 
 #ifdef __cplusplus
 }

@@ -1,0 +1,63 @@
+/* Our header beside a usual j2534.h, ours last unless OURS_FIRST is defined: it compiles as C99 and as C++, and every name has the same number
+ * in both. With NAMES_ON ours defines J2534-1's names too; then the two together must not compile, or this test would show nothing. */
+#ifndef NAMES_ON
+#define TRAWL_NO_J2534_NAMES
+#endif
+#ifdef OURS_FIRST
+#include "../../include/trawlpepper.h"
+#include "j2534_usual.h"
+#else
+#include "j2534_usual.h"
+#include "../../include/trawlpepper.h"
+#endif
+
+#define SAME(name) typedef char same_##name[TRAWL_##name == (name) ? 1 : -1]
+SAME(CAN); SAME(CAN_29BIT_ID); SAME(CAN_ID_BOTH); SAME(PASS_FILTER); SAME(BLOCK_FILTER); SAME(DATA_RATE); SAME(LOOPBACK); SAME(TX_MSG_TYPE);
+SAME(STATUS_NOERROR); SAME(ERR_NOT_SUPPORTED); SAME(ERR_INVALID_CHANNEL_ID); SAME(ERR_INVALID_PROTOCOL_ID); SAME(ERR_NULL_PARAMETER);
+SAME(ERR_INVALID_IOCTL_VALUE); SAME(ERR_INVALID_FLAGS); SAME(ERR_FAILED); SAME(ERR_TIMEOUT); SAME(ERR_INVALID_MSG);
+SAME(ERR_INVALID_TIME_INTERVAL); SAME(ERR_EXCEEDED_LIMIT); SAME(ERR_INVALID_MSG_ID); SAME(ERR_INVALID_IOCTL_ID); SAME(ERR_BUFFER_EMPTY);
+SAME(ERR_BUFFER_FULL); SAME(ERR_BUFFER_OVERFLOW); SAME(ERR_PIN_INVALID); SAME(ERR_CHANNEL_IN_USE); SAME(ERR_MSG_PROTOCOL_ID);
+SAME(ERR_INVALID_FILTER_ID); SAME(ERR_INVALID_BAUDRATE); SAME(ERR_INVALID_DEVICE_ID); SAME(CLEAR_TX_BUFFER); SAME(CLEAR_RX_BUFFER);
+SAME(CLEAR_PERIODIC_MSGS); SAME(CLEAR_MSG_FILTERS);
+typedef char version_is_there[TRAWL_VERSION >= 10000 ? 1 : -1];
+
+/* what a box's DLL does between the two: a record that was read becomes J2534-1's message, a message becomes a record to write */
+void to_message(PASSTHRU_MSG *to, const uint8_t *record);
+void to_message(PASSTHRU_MSG *to, const uint8_t *record) {
+    size_t i;
+    to->ProtocolID = trawl_record_protocol(record);
+    to->RxStatus = trawl_record_rx_status(record);
+    to->TxFlags = trawl_record_tx_flags(record);
+    to->Timestamp = trawl_record_time(record);
+    to->DataSize = trawl_record_size(record);
+    to->ExtraDataIndex = trawl_record_extra(record);
+    for (i = 0; i < 12; i++) to->Data[i] = record[24 + i];
+}
+
+void to_record(uint8_t *record, const PASSTHRU_MSG *from);
+void to_record(uint8_t *record, const PASSTHRU_MSG *from) {
+    trawl_record_bytes(record, (uint32_t)from->TxFlags, from->Data, from->DataSize);
+    trawl_store32(record, (uint32_t)from->ProtocolID);
+}
+
+/* the file is a program, so that C++ links the calls too */
+int main(void) {
+    static uint8_t box[TRAWL_MEMORY], record[TRAWL_RECORD];
+    static PASSTHRU_MSG message;
+    uint32_t channel, count;
+    message.ProtocolID = CAN, message.TxFlags = CAN_29BIT_ID, message.DataSize = 5;
+    message.Data[0] = 0x18, message.Data[1] = 0xDA, message.Data[2] = 0xF1, message.Data[3] = 0x10, message.Data[4] = 0x3E;
+    to_record(record, &message);
+    if (trawl_power_on(box, sizeof box) != STATUS_NOERROR) return 1;
+    if (trawl_connect(box, sizeof box, 3, CAN, CAN_29BIT_ID, 250000, &channel) != STATUS_NOERROR) return 2;
+    if (trawl_set(box, sizeof box, channel, LOOPBACK, 1) != STATUS_NOERROR) return 3;
+    if (trawl_write(box, sizeof box, channel, 1, record, sizeof record, &count) != STATUS_NOERROR || count != 1) return 4;
+    if (trawl_take(box, sizeof box, channel, record, sizeof record) != STATUS_NOERROR) return 5;
+    if (trawl_sent(box, sizeof box, channel) != STATUS_NOERROR) return 6;
+    if (trawl_read(box, sizeof box, channel, 1, record, sizeof record, &count) != STATUS_NOERROR || count != 1) return 7;
+    to_message(&message, record);
+    if (message.RxStatus != (CAN_29BIT_ID | TX_MSG_TYPE) || message.DataSize != 5 || message.Data[3] != 0x10) return 8;
+    if (trawl_clear(box, sizeof box, channel, trawl_clear_kind(CLEAR_RX_BUFFER)) != STATUS_NOERROR) return 9;
+    if (trawl_clear(box, sizeof box, channel, CLEAR_RX_BUFFER) != ERR_INVALID_IOCTL_ID) return 10;
+    return 0;
+}

@@ -1,0 +1,85 @@
+/* NULL with length 0, for every slice of every call: answered like an empty buffer, nothing written. The codes expected are the header's. */
+#include <stdio.h>
+#include <string.h>
+
+#define TRAWL_NO_J2534_NAMES
+#include "../../include/trawlpepper.h"
+#include "support.h"
+
+static uint8_t box[TRAWL_MEMORY], before[TRAWL_MEMORY];
+static unsigned long held;
+
+static void must(int true_, const char *what) {
+    if (!true_) fail(what, NULL, held);
+    held++;
+}
+
+/* a call without a memory: 0x1A, and the number 0 */
+#define NONE(call, number) (number = 77, must((call) == 0x1A && number == 0, #call))
+#define NONE_ALONE(call) must((call) == 0x1A, #call)
+/* a call on the box: its code and number, and the memory as it was */
+#define STAYS(code, want, call, number)                                                                                                   \
+    (number = 77, memcpy(before, box, sizeof box), must((call) == (code) && number == (want) && memcmp(before, box, sizeof box) == 0, #call))
+
+int main(void) {
+    static uint8_t record[TRAWL_RECORD], mask[TRAWL_RECORD], telegram[TRAWL_TELEGRAM], room[TRAWL_REPLAY_ROOM(0)];
+    uint32_t v;
+    size_t length = 77;
+
+    must(trawl_valid(NULL, 0) == 0, "valid");
+    NONE_ALONE(trawl_power_on(NULL, 0));
+    NONE(trawl_connect(NULL, 0, 0, 5, 0, 500000, &v), v);
+    NONE_ALONE(trawl_close(NULL, 0));
+    NONE_ALONE(trawl_advance(NULL, 0, 1));
+    NONE_ALONE(trawl_frame(NULL, 0, 0, 0, 0, NULL, 0));
+    NONE_ALONE(trawl_disconnect(NULL, 0, 1));
+    NONE(trawl_start_filter(NULL, 0, 1, 1, NULL, 0, NULL, 0, &v), v);
+    NONE_ALONE(trawl_stop_filter(NULL, 0, 1, 1));
+    NONE(trawl_start_periodic(NULL, 0, 1, NULL, 0, 5, &v), v);
+    NONE_ALONE(trawl_stop_periodic(NULL, 0, 1, 1));
+    NONE(trawl_write(NULL, 0, 1, 0, NULL, 0, &v), v);
+    NONE(trawl_read(NULL, 0, 1, 0, NULL, 0, &v), v);
+    NONE_ALONE(trawl_take(NULL, 0, 1, NULL, 0));
+    NONE_ALONE(trawl_sent(NULL, 0, 1));
+    NONE_ALONE(trawl_clear(NULL, 0, 1, 1));
+    NONE(trawl_get(NULL, 0, 1, 1, &v), v);
+    NONE_ALONE(trawl_set(NULL, 0, 1, 3, 1));
+
+    must(trawl_power_on(box, sizeof box) == 0 && trawl_connect(box, sizeof box, 0, 5, 0, 500000, &v) == 0, "connect");
+    trawl_record_make(record, 0, 0, NULL, 0);
+    STAYS(0x04, 0, trawl_start_filter(box, sizeof box, 1, 1, NULL, 0, record, sizeof record, &v), v);
+    STAYS(0x04, 0, trawl_start_filter(box, sizeof box, 1, 1, record, sizeof record, NULL, 0, &v), v);
+    STAYS(0x04, 0, trawl_start_filter(box, sizeof box, 1, 1, NULL, 0, NULL, 0, &v), v);
+    STAYS(0x04, 0, trawl_start_periodic(box, sizeof box, 1, NULL, 0, 5, &v), v);
+    STAYS(0x04, 0, trawl_write(box, sizeof box, 1, 1, NULL, 0, &v), v);
+    STAYS(0x00, 0, trawl_write(box, sizeof box, 1, 0, NULL, 0, &v), v);
+    STAYS(0x04, 0, trawl_read(box, sizeof box, 1, 1, NULL, 0, &v), v);
+    STAYS(0x00, 0, trawl_read(box, sizeof box, 1, 0, NULL, 0, &v), v);
+    STAYS(0x04, 77, trawl_take(box, sizeof box, 1, NULL, 0), v);
+    STAYS(0x13, 77, trawl_frame(box, sizeof box, 4, 0, 0, NULL, 0), v);
+    STAYS(0x00, 77, trawl_frame(box, sizeof box, 0, 0, 0x7E8, NULL, 0), v); /* no filter lets nothing in */
+
+    /* a frame without data, let in by a filter with a longer size: the bytes that it doesn't have count as zero */
+    trawl_record_make(mask, 0, 0x7FF, (const uint8_t *)"\xFF\xFF\xFF\xFF\xFF\xFF\xFF\xFF", 8);
+    trawl_record_make(record, 0, 0x7E8, (const uint8_t *)"\0\0\0\0\0\0\0", 8);
+    must(trawl_start_filter(box, sizeof box, 1, 1, mask, sizeof mask, record, sizeof record, &v) == 0 && v == 1, "filter");
+    must(trawl_frame(box, sizeof box, 0, 0, 0x7E8, NULL, 0) == 0, "frame without data");
+    STAYS(0x00, 0, trawl_read(box, sizeof box, 1, 0, NULL, 0, &v), v);
+    STAYS(0x04, 0, trawl_read(box, sizeof box, 1, 1, NULL, 0, &v), v);
+    must(trawl_read(box, sizeof box, 1, 1, record, sizeof record, &v) == 0 && v == 1, "read");
+    must(trawl_record_identifier(record) == 0x7E8 && trawl_record_size(record) == 4 && trawl_record_data_size(record) == 0, "its record");
+
+    /* telegrams and recordings */
+    must(trawl_read_telegram(0, 0, NULL, 0, telegram, sizeof telegram) == 0x0A, "no bytes on a channel");
+    must(trawl_read_telegram(1, 0x200, NULL, 0, telegram, sizeof telegram) == 0x0A, "no bytes to open with");
+    must(trawl_read_telegram(0, 0, NULL, 0, NULL, 0) == 0x04, "no buffer for a telegram");
+    must(trawl_read_telegram(0, 0, (const uint8_t *)"\xA3", 1, NULL, 0) == 0x04, "no buffer for a telegram");
+    v = 77, must(trawl_write_telegram(NULL, 0, NULL, 0, &v) == 0x04 && v == 0, "no telegram, no buffer");
+    v = 77, must(trawl_write_telegram(telegram, sizeof telegram, NULL, 0, &v) == 0x04 && v == 0, "no buffer");
+    v = 77, must(trawl_write_telegram(NULL, 0, room, sizeof room, &v) == 0x04 && v == 0, "no telegram");
+    must(trawl_replay(NULL, 0, room, sizeof room, &length) == 0 && length == 0, "an empty recording");
+    length = 77, must(trawl_replay(NULL, 0, NULL, 0, &length) == 0x04 && length == 0, "an empty recording into nothing");
+    length = 77, must(trawl_replay((const uint8_t *)"\x03", 1, NULL, 0, &length) == 0x04 && length == 0, "a recording into nothing");
+    printf("NULL with length 0: %lu calls answered as the header says\n", held);
+    return 0;
+}

@@ -1,0 +1,124 @@
+/* The driver's loop of the header, word for word (the script takes it out of there and puts it into loop.inc), with a controller that fails, and
+ * what the header says of frames in flight. */
+#include <stdio.h>
+#include <string.h>
+
+#define TRAWL_NO_J2534_NAMES
+#include "../../include/trawlpepper.h"
+#include "support.h"
+
+static uint8_t box[TRAWL_MEMORY], record[TRAWL_RECORD], data[8];
+static size_t n;
+static unsigned long held;
+
+static void must(int true_, const char *what) {
+    if (!true_) fail(what, NULL, held);
+    held++;
+}
+
+/* ---- the controller of each line ---- */
+
+static uint32_t elapsed, arriving[4], handed[4], last[4]; /* frames still to come; how often it was handed one, and the last one's identifier */
+static int busy[4], sent[4], fails;
+
+static uint32_t microseconds_since_last_time(void) {
+    uint32_t us = elapsed;
+    elapsed = 0;
+    return us;
+}
+
+static int controller_received(uint32_t line, uint32_t *wide, uint32_t *id, uint8_t *bytes, size_t *length) {
+    if (arriving[line] == 0) return 0;
+    arriving[line]--;
+    *wide = 0, *id = 0x7E8, *length = 2, bytes[0] = 0x01, bytes[1] = 0x02;
+    return 1;
+}
+
+static int controller_has_sent(uint32_t line) {
+    int was = sent[line];
+    sent[line] = 0;
+    return was;
+}
+
+static int controller_idle(uint32_t line) { return !busy[line]; }
+
+static void controller_send(uint32_t line, uint32_t wide, uint32_t id, const uint8_t *bytes, size_t length) {
+    must(wide == 0 && length == 1 && bytes[0] == (id & 0xFF), "what is handed over");
+    busy[line] = 1, handed[line]++, last[line] = id;
+}
+
+static void wire(void) {
+    for (int line = 0; line < 4; line++) {
+        if (!busy[line]) continue;
+        busy[line] = 0;
+        if (fails > 0) fails--;
+        else sent[line] = 1;
+    }
+}
+
+static void step(void) {
+#include "loop.inc"
+}
+
+/* ---- stories ---- */
+
+static void queue_one(uint32_t channel, uint32_t id) {
+    uint8_t r[TRAWL_RECORD], byte = (uint8_t)id;
+    uint32_t count;
+    trawl_record_make(r, 0, id, &byte, 1);
+    must(trawl_write(box, sizeof box, channel, 1, r, sizeof r, &count) == 0 && count == 1, "write");
+}
+
+static uint32_t read_one(uint32_t channel) {
+    uint32_t count;
+    trawl_read(box, sizeof box, channel, 1, record, sizeof record, &count);
+    return count;
+}
+
+int main(void) {
+    uint8_t every[TRAWL_RECORD];
+    uint32_t channel, number;
+    trawl_power_on(box, sizeof box);
+    trawl_connect(box, sizeof box, 1, TRAWL_CAN, 0, 500000, &channel);
+    trawl_set(box, sizeof box, channel, TRAWL_LOOPBACK, 1);
+    trawl_record_make(every, 0, 0, NULL, 0);
+
+    /* no filter lets nothing in; with one the frame has the time of the loop's advances, more than a second of them */
+    arriving[1] = 1, elapsed = 1, step();
+    must(arriving[1] == 0 && read_one(channel) == 0, "no filter");
+    trawl_start_filter(box, sizeof box, channel, TRAWL_PASS_FILTER, every, sizeof every, every, sizeof every, &number);
+    arriving[1] = 2, elapsed = 3499999, step();
+    must(read_one(channel) == 1 && trawl_record_time(record) == 3500000 && trawl_record_identifier(record) == 0x7E8, "a frame's time");
+    must(read_one(channel) == 1 && read_one(channel) == 0, "two frames");
+
+    /* two sendings fail: the same frame is handed over three times, echoed once, and the next one waits */
+    queue_one(channel, 0x701), queue_one(channel, 0x702);
+    fails = 2;
+    step(), must(handed[1] == 1 && last[1] == 0x701, "first try");
+    wire(), step(), must(handed[1] == 2 && last[1] == 0x701 && read_one(channel) == 0, "second try");
+    wire(), step(), must(handed[1] == 3 && last[1] == 0x701 && read_one(channel) == 0, "third try");
+    wire(), step(), must(handed[1] == 4 && last[1] == 0x702, "the next frame");
+    must(read_one(channel) == 1 && trawl_record_echo(record) == 1 && trawl_record_identifier(record) == 0x701 && read_one(channel) == 0, "one echo");
+    wire(), step(), must(handed[1] == 4, "nothing more");
+    must(read_one(channel) == 1 && trawl_record_identifier(record) == 0x702, "the second echo");
+
+    /* given up: loopback off, sent, on again. Clear leaves the flight */
+    queue_one(channel, 0x703), queue_one(channel, 0x704);
+    fails = 1, step(), wire(), busy[1] = 1;
+    must(trawl_clear(box, sizeof box, channel, trawl_clear_kind(TRAWL_CLEAR_TX_BUFFER)) == 0, "clear");
+    must(trawl_take(box, sizeof box, channel, record, sizeof record) == 0 && trawl_record_identifier(record) == 0x703, "the flight stays");
+    must(trawl_set(box, sizeof box, channel, TRAWL_LOOPBACK, 0) == 0 && trawl_sent(box, sizeof box, channel) == 0, "given up");
+    must(trawl_set(box, sizeof box, channel, TRAWL_LOOPBACK, 1) == 0 && read_one(channel) == 0, "without an echo");
+    must(trawl_take(box, sizeof box, channel, record, sizeof record) == TRAWL_ERR_BUFFER_EMPTY, "nothing left");
+    must(trawl_sent(box, sizeof box, channel) == TRAWL_ERR_FAILED, "nothing in flight");
+    busy[1] = 0;
+
+    /* disconnect empties the flight; a late 'sent' of the controller is refused and does no harm */
+    queue_one(channel, 0x705), step();
+    trawl_disconnect(box, sizeof box, channel);
+    trawl_connect(box, sizeof box, 1, TRAWL_CAN, 0, 500000, &channel);
+    must(trawl_sent(box, sizeof box, channel) == TRAWL_ERR_FAILED, "a late sent");
+    wire(), step(), must(handed[1] == 6 && trawl_valid(box, sizeof box), "and the loop goes on");
+    printf("the header's loop: %lu looks\n", held);
+    return 0;
+}

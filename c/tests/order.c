@@ -1,0 +1,225 @@
+/* The codes of each call in the order of the header: a call with everything wrong, then with one thing after another put right. Each refusal must
+ * leave the memory, and the number must be 0. */
+#include <stdio.h>
+#include <string.h>
+
+#define TRAWL_NO_J2534_NAMES
+#include "../../include/trawlpepper.h"
+#include "support.h"
+
+enum { NARROW = 1, WIDE = 2, BOTH = 3, CLOSED = 4 }; /* the four channels */
+
+static uint8_t box[TRAWL_MEMORY], broken[TRAWL_MEMORY], before[TRAWL_MEMORY];
+static uint32_t number;
+static unsigned long held;
+
+static void must(int true_, const char *what) {
+    if (!true_) fail(what, NULL, held);
+    held++;
+}
+
+/* the call has this code; where that is a refusal the memory stays and the number is 0 */
+#define GIVES(code, call)                                                                                                                 \
+    do {                                                                                                                                  \
+        uint32_t given;                                                                                                                   \
+        memcpy(before, box, sizeof box);                                                                                                  \
+        number = 0;                                                                                                                       \
+        given = (call);                                                                                                                   \
+        must(given == (code), #code " of " #call);                                                                                        \
+        if (given != 0x00 && given != 0x09 && given != 0x12 && number == 0) must(memcmp(before, box, sizeof box) == 0, "stays: " #call);  \
+        if (given != 0x00 && given != 0x09 && given != 0x12 && given != 0x11) must(number == 0, "no number: " #call);                     \
+    } while (0)
+
+#define BOX box, sizeof box
+#define BROKEN broken, sizeof broken
+#define SHORT box, sizeof box - 1
+#define R(r) r, sizeof r
+
+static void open_all(void) {
+    GIVES(0x00, trawl_power_on(BOX));
+    GIVES(0x00, trawl_connect(BOX, 0, 5, 0, 500000, &number));
+    GIVES(0x00, trawl_connect(BOX, 1, 5, 0x100, 250000, &number));
+    GIVES(0x00, trawl_connect(BOX, 2, 5, 0x900, 125000, &number));
+    memcpy(broken, box, sizeof box);
+    broken[4] = 2; /* a mark that is neither 0 nor 1 */
+    must(!trawl_valid(BROKEN) && !trawl_valid(SHORT) && trawl_valid(BOX), "valid");
+}
+
+static void lines(void) {
+    static const uint8_t data[9] = {0};
+    GIVES(0x1A, trawl_power_on(SHORT));
+    GIVES(0x1A, trawl_close(BROKEN));
+    GIVES(0x1A, trawl_close(SHORT));
+    GIVES(0x1A, trawl_connect(BROKEN, 9, 6, 1, 1, &number));
+    GIVES(0x1A, trawl_connect(SHORT, 9, 6, 1, 1, &number));
+    GIVES(0x03, trawl_connect(BOX, 9, 6, 1, 1, &number));
+    GIVES(0x06, trawl_connect(BOX, 9, 5, 0x901, 1, &number));
+    GIVES(0x19, trawl_connect(BOX, 9, 5, 0x900, 500001, &number));
+    GIVES(0x19, trawl_connect(BOX, 0, 5, 0x900, 500001, &number)); /* before 0x14 */
+    GIVES(0x13, trawl_connect(BOX, 4, 5, 0x900, 500000, &number));
+    GIVES(0x14, trawl_connect(BOX, 0, 5, 0x900, 500000, &number));
+    GIVES(0x1A, trawl_advance(BROKEN, 1000001));
+    GIVES(0x0B, trawl_advance(BOX, 1000001));
+    GIVES(0x00, trawl_advance(BOX, 1000000));
+    GIVES(0x1A, trawl_frame(BROKEN, 4, 2, 0x800, data, 9));
+    GIVES(0x13, trawl_frame(BOX, 4, 2, 0x800, data, 9));
+    GIVES(0x0A, trawl_frame(BOX, 3, 2, 0, data, 8)); /* also where the line is closed */
+    GIVES(0x0A, trawl_frame(BOX, 0, 0, 0x800, data, 8));
+    GIVES(0x0A, trawl_frame(BOX, 1, 1, 0x20000000, data, 8));
+    GIVES(0x0A, trawl_frame(BOX, 0, 0, 0x7FF, data, 9));
+    GIVES(0x00, trawl_frame(BOX, 3, 0, 0x7FF, data, 8));
+    GIVES(0x00, trawl_frame(BOX, 1, 0, 0x7FF, data, 8)); /* a width that isn't taken is dropped */
+}
+
+static void filters(void) {
+    uint8_t good[36], wide[36], other[36], longer[36], bits[36], thirteen[36], none[36];
+    trawl_record_make(good, 0, 0, NULL, 0), trawl_record_make(wide, 1, 0, NULL, 0), trawl_record_make(longer, 0, 0, good, 1);
+    memcpy(other, good, 36), other[0] = 6;
+    memcpy(bits, good, 36), bits[8] = 1;
+    memcpy(thirteen, good, 36), thirteen[16] = 13;
+    memcpy(none, good, 36), none[16] = 0;
+    GIVES(0x1A, trawl_start_filter(BROKEN, 5, 3, other, 35, other, 35, &number));
+    GIVES(0x02, trawl_start_filter(BOX, 5, 3, other, 35, other, 35, &number));
+    GIVES(0x02, trawl_start_filter(BOX, 0, 3, other, 35, other, 35, &number));
+    GIVES(0x02, trawl_start_filter(BOX, CLOSED, 3, other, 35, other, 35, &number));
+    GIVES(0x04, trawl_start_filter(BOX, NARROW, 3, other, 35, R(other), &number));
+    GIVES(0x04, trawl_start_filter(BOX, NARROW, 3, R(other), other, 35, &number));
+    GIVES(0x16, trawl_start_filter(BOX, NARROW, 3, R(other), R(other), &number));
+    GIVES(0x16, trawl_start_filter(BOX, NARROW, 257, R(other), R(other), &number));
+    GIVES(0x15, trawl_start_filter(BOX, NARROW, 1, R(other), R(thirteen), &number));
+    GIVES(0x15, trawl_start_filter(BOX, NARROW, 1, R(thirteen), R(other), &number));
+    GIVES(0x0A, trawl_start_filter(BOX, NARROW, 1, R(good), R(longer), &number));
+    GIVES(0x0A, trawl_start_filter(BOX, NARROW, 1, R(thirteen), R(thirteen), &number));
+    GIVES(0x0A, trawl_start_filter(BOX, NARROW, 1, R(none), R(none), &number));
+    GIVES(0x0A, trawl_start_filter(BOX, NARROW, 1, R(good), R(bits), &number));
+    GIVES(0x0A, trawl_start_filter(BOX, NARROW, 1, R(wide), R(wide), &number));
+    GIVES(0x0A, trawl_start_filter(BOX, WIDE, 1, R(good), R(good), &number));
+    for (uint32_t i = 1; i <= 10; i++) {
+        GIVES(0x00, trawl_start_filter(BOX, NARROW, 1 + i % 2, R(good), R(good), &number));
+        must(number == i, "a filter's number");
+    }
+    GIVES(0x0A, trawl_start_filter(BOX, NARROW, 1, R(good), R(bits), &number)); /* before 0x0C */
+    GIVES(0x0C, trawl_start_filter(BOX, NARROW, 1, R(good), R(good), &number));
+    GIVES(0x00, trawl_start_filter(BOX, BOTH, 1, R(wide), R(wide), &number)); /* each channel has ten of its own */
+    GIVES(0x1A, trawl_stop_filter(BROKEN, 5, 11));
+    GIVES(0x02, trawl_stop_filter(BOX, 5, 11));
+    GIVES(0x16, trawl_stop_filter(BOX, NARROW, 11));
+    GIVES(0x16, trawl_stop_filter(BOX, NARROW, 0));
+    GIVES(0x16, trawl_stop_filter(BOX, WIDE, 1));
+    GIVES(0x00, trawl_stop_filter(BOX, NARROW, 3));
+    GIVES(0x16, trawl_stop_filter(BOX, NARROW, 3));
+    GIVES(0x00, trawl_start_filter(BOX, NARROW, 1, R(good), R(good), &number));
+    must(number == 3, "the smallest free number");
+}
+
+static void sending(void) {
+    static uint8_t many[17 * 36];
+    uint8_t good[36], wide[36], other[36], three[36], large[36], out[36];
+    trawl_record_make(good, 0, 0x7FF, NULL, 0), trawl_record_make(wide, 1, 0x1FFFFFFF, NULL, 0), trawl_record_make(large, 0, 0x800, NULL, 0);
+    memcpy(other, good, 36), other[0] = 6;
+    memcpy(three, good, 36), three[16] = 3;
+    for (size_t i = 0; i < 17; i++) memcpy(many + 36 * i, good, 36);
+
+    GIVES(0x1A, trawl_start_periodic(BROKEN, 5, other, 35, 4, &number));
+    GIVES(0x02, trawl_start_periodic(BOX, CLOSED, other, 35, 4, &number));
+    GIVES(0x04, trawl_start_periodic(BOX, NARROW, other, 35, 4, &number));
+    GIVES(0x0B, trawl_start_periodic(BOX, NARROW, R(other), 4, &number));
+    GIVES(0x0B, trawl_start_periodic(BOX, NARROW, R(other), 65536, &number));
+    GIVES(0x15, trawl_start_periodic(BOX, NARROW, R(other), 5, &number));
+    GIVES(0x0A, trawl_start_periodic(BOX, NARROW, R(three), 5, &number));
+    GIVES(0x0A, trawl_start_periodic(BOX, NARROW, R(wide), 5, &number));
+    GIVES(0x0A, trawl_start_periodic(BOX, NARROW, R(large), 5, &number));
+    for (uint32_t i = 1; i <= 10; i++) {
+        GIVES(0x00, trawl_start_periodic(BOX, NARROW, R(good), 65535, &number));
+        must(number == i, "a periodic's number");
+    }
+    GIVES(0x0A, trawl_start_periodic(BOX, NARROW, R(large), 5, &number)); /* before 0x0C */
+    GIVES(0x0C, trawl_start_periodic(BOX, NARROW, R(good), 5, &number));
+    GIVES(0x1A, trawl_stop_periodic(BROKEN, 5, 11));
+    GIVES(0x02, trawl_stop_periodic(BOX, CLOSED, 11));
+    GIVES(0x0D, trawl_stop_periodic(BOX, NARROW, 11));
+    GIVES(0x0D, trawl_stop_periodic(BOX, BOTH, 1));
+    GIVES(0x00, trawl_stop_periodic(BOX, NARROW, 1));
+
+    GIVES(0x1A, trawl_write(BROKEN, 5, 2, other, 36, &number));
+    GIVES(0x02, trawl_write(BOX, CLOSED, 2, other, 36, &number));
+    GIVES(0x04, trawl_write(BOX, WIDE, 2, other, 36, &number));
+    GIVES(0x04, trawl_write(BOX, WIDE, 0xFFFFFFFF, other, 36, &number));
+    GIVES(0x15, trawl_write(BOX, WIDE, 1, other, 36, &number));
+    GIVES(0x0A, trawl_write(BOX, WIDE, 1, good, 36, &number));
+    GIVES(0x00, trawl_write(BOX, NARROW, 0, good, 0, &number));
+    GIVES(0x11, trawl_write(BOX, NARROW, 17, many, sizeof many, &number));
+    must(number == 16, "sixteen queued");
+    GIVES(0x11, trawl_write(BOX, NARROW, 1, good, 36, &number));
+    must(number == 0, "none queued");
+    GIVES(0x15, trawl_write(BOX, NARROW, 1, other, 36, &number)); /* a record's own code before 0x11 */
+    GIVES(0x0A, trawl_write(BOX, NARROW, 1, large, 36, &number));
+
+    GIVES(0x1A, trawl_sent(BROKEN, 5));
+    GIVES(0x02, trawl_sent(BOX, CLOSED));
+    GIVES(0x07, trawl_sent(BOX, NARROW));
+    GIVES(0x1A, trawl_take(BROKEN, 5, out, 35));
+    GIVES(0x02, trawl_take(BOX, CLOSED, out, 35));
+    GIVES(0x04, trawl_take(BOX, BOTH, out, 35)); /* also where there is no frame */
+    GIVES(0x10, trawl_take(BOX, BOTH, R(out)));
+    GIVES(0x00, trawl_take(BOX, NARROW, R(out)));
+    GIVES(0x00, trawl_sent(BOX, NARROW));
+    GIVES(0x07, trawl_sent(BOX, NARROW));
+}
+
+static void reading(void) {
+    static uint8_t out[40 * 36];
+    GIVES(0x1A, trawl_read(BROKEN, 5, 2, out, 71, &number));
+    GIVES(0x02, trawl_read(BOX, CLOSED, 2, out, 71, &number));
+    GIVES(0x04, trawl_read(BOX, BOTH, 2, out, 71, &number));
+    GIVES(0x00, trawl_read(BOX, BOTH, 0, out, 0, &number));
+    GIVES(0x10, trawl_read(BOX, BOTH, 40, R(out), &number));
+    for (int i = 0; i < 3; i++) GIVES(0x00, trawl_frame(BOX, 2, 1, 0x18DAF110, NULL, 0));
+    GIVES(0x00, trawl_read(BOX, BOTH, 1, R(out), &number));
+    must(number == 1, "one read");
+    GIVES(0x09, trawl_read(BOX, BOTH, 3, R(out), &number));
+    must(number == 2, "two read");
+    for (int i = 0; i < 33; i++) GIVES(0x00, trawl_frame(BOX, 2, 1, 0x18DAF110, NULL, 0));
+    GIVES(0x04, trawl_read(BOX, BOTH, 40, out, 1439, &number));
+    GIVES(0x00, trawl_read(BOX, BOTH, 0, R(out), &number)); /* the mark stays */
+    GIVES(0x12, trawl_read(BOX, BOTH, 32, R(out), &number));
+    must(number == 32, "all read, and the loss told");
+    GIVES(0x10, trawl_read(BOX, BOTH, 32, R(out), &number));
+}
+
+static void settings(void) {
+    GIVES(0x1A, trawl_get(BROKEN, 5, 2, &number));
+    GIVES(0x02, trawl_get(BOX, 5, 2, &number));
+    GIVES(0x01, trawl_get(BOX, BOTH, 2, &number));
+    GIVES(0x00, trawl_get(BOX, BOTH, 1, &number));
+    must(number == 125000, "rate");
+    GIVES(0x1A, trawl_set(BROKEN, 5, 2, 9));
+    GIVES(0x02, trawl_set(BOX, 5, 2, 9));
+    GIVES(0x01, trawl_set(BOX, BOTH, 2, 9));
+    GIVES(0x05, trawl_set(BOX, BOTH, 1, 9));
+    GIVES(0x05, trawl_set(BOX, BOTH, 3, 2));
+    GIVES(0x00, trawl_set(BOX, BOTH, 3, 1));
+    GIVES(0x1A, trawl_clear(BROKEN, 5, 5));
+    GIVES(0x02, trawl_clear(BOX, 5, 5));
+    GIVES(0x0F, trawl_clear(BOX, BOTH, 0));
+    for (uint32_t kind = 5; kind < 40; kind++) GIVES(0x0F, trawl_clear(BOX, BOTH, kind)); /* J2534-1's own numbers too */
+    for (uint32_t kind = 1; kind < 5; kind++) GIVES(0x00, trawl_clear(BOX, BOTH, kind));
+    for (uint32_t ioctl = 7; ioctl < 11; ioctl++) GIVES(0x00, trawl_clear(BOX, BOTH, trawl_clear_kind(ioctl)));
+    GIVES(0x1A, trawl_disconnect(BROKEN, 5));
+    GIVES(0x02, trawl_disconnect(BOX, CLOSED));
+    GIVES(0x00, trawl_disconnect(BOX, BOTH));
+    GIVES(0x02, trawl_disconnect(BOX, BOTH));
+    GIVES(0x00, trawl_close(BOX));
+    GIVES(0x02, trawl_disconnect(BOX, NARROW));
+}
+
+int main(void) {
+    open_all();
+    lines();
+    filters();
+    sending();
+    reading();
+    settings();
+    printf("codes in the header's order: %lu looks\n", held);
+    return 0;
+}

@@ -1,0 +1,116 @@
+/* How much stack each call takes: `stack [MOST [MOST-OF-REPLAY]]`. Each call runs on a painted stack of its own, on a box that is idle, full and
+ * broken; the deepest byte that was written counts, less what an empty function takes. With numbers it fails where a call takes more. */
+#define _XOPEN_SOURCE 700
+#include <stdio.h>
+#include <stdlib.h>
+#include <string.h>
+#include <ucontext.h>
+
+#define TRAWL_NO_J2534_NAMES
+#include "../../include/trawlpepper.h"
+
+enum { STACK = 131072, FEW = 32 };
+
+static uint8_t idle[TRAWL_MEMORY], full[TRAWL_MEMORY], broken[TRAWL_MEMORY], box[TRAWL_MEMORY];
+static uint8_t message[TRAWL_RECORD], many[40 * TRAWL_RECORD], telegram[TRAWL_TELEGRAM], eight[8], out[TRAWL_REPLAY_ROOM(FEW)];
+static const uint8_t recording[] = {1, 0, 5, 0, 0xA0, 0xC2, 0x1E, 4, 1, 5, 0, 0, 1, 2, 1, 2, 11, 1, 1, 12, 1, 13, 1, 14, 1, 1, 15, 1, 1, 16, 1, 3, 1};
+static uint32_t number;
+static size_t length;
+
+#define BOX box, sizeof box
+
+static void nothing(void) { number = 0; }
+static void do_valid(void) { number = trawl_valid(BOX); }
+static void do_power_on(void) { trawl_power_on(BOX); }
+static void do_connect(void) { trawl_connect(BOX, 3, 5, 0, 500000, &number); }
+static void do_close(void) { trawl_close(BOX); }
+static void do_advance(void) { trawl_advance(BOX, 1000000); }
+static void do_frame(void) { trawl_frame(BOX, 0, 0, 0x7E8, eight, 8); }
+static void do_disconnect(void) { trawl_disconnect(BOX, 1); }
+static void do_start_filter(void) { trawl_start_filter(BOX, 1, 1, message, 36, message, 36, &number); }
+static void do_stop_filter(void) { trawl_stop_filter(BOX, 1, 1); }
+static void do_start_periodic(void) { trawl_start_periodic(BOX, 1, message, 36, 5, &number); }
+static void do_stop_periodic(void) { trawl_stop_periodic(BOX, 1, 1); }
+static void do_write(void) { trawl_write(BOX, 1, 17, many, 17 * 36, &number); }
+static void do_read(void) { trawl_read(BOX, 1, 40, many, sizeof many, &number); }
+static void do_take(void) { trawl_take(BOX, 1, many, 36); }
+static void do_sent(void) { trawl_sent(BOX, 1); }
+static void do_clear(void) { trawl_clear(BOX, 1, 3); }
+static void do_get(void) { trawl_get(BOX, 1, 1, &number); }
+static void do_set(void) { trawl_set(BOX, 1, 3, 1); }
+static void do_read_telegram(void) { trawl_read_telegram(0, 0, (const uint8_t *)"\xA0\x0F\x8A\xFF\x32\xFF", 6, telegram, sizeof telegram); }
+static void do_write_telegram(void) { trawl_write_telegram(telegram, sizeof telegram, eight, 8, &number); }
+static void do_time(void) { number = trawl_time(0x8A); }
+static void do_replay(void) { trawl_replay(recording, FEW, out, sizeof out, &length); }
+
+static const struct {
+    const char *name;
+    void (*call)(void);
+} calls[] = {{"valid", do_valid}, {"power_on", do_power_on}, {"connect", do_connect}, {"close", do_close}, {"advance", do_advance},
+             {"frame", do_frame}, {"disconnect", do_disconnect}, {"start_filter", do_start_filter}, {"stop_filter", do_stop_filter},
+             {"start_periodic", do_start_periodic}, {"stop_periodic", do_stop_periodic}, {"write", do_write}, {"read", do_read},
+             {"take", do_take}, {"sent", do_sent}, {"clear", do_clear}, {"get", do_get}, {"set", do_set},
+             {"read_telegram", do_read_telegram}, {"write_telegram", do_write_telegram}, {"time", do_time}, {"replay", do_replay}};
+
+/* ---- a painted stack ---- */
+
+static uint8_t stack[STACK];
+static ucontext_t here, there;
+
+static size_t depth(void (*call)(void)) {
+    size_t i = 0;
+    memset(stack, 0xA7, sizeof stack);
+    getcontext(&there);
+    there.uc_stack.ss_sp = stack, there.uc_stack.ss_size = sizeof stack, there.uc_link = &here;
+    makecontext(&there, call, 0);
+    swapcontext(&here, &there);
+    while (i < sizeof stack && stack[i] == 0xA7) i++;
+    return sizeof stack - i;
+}
+
+static void boxes(void) {
+    static const uint8_t data[8] = {1, 2, 3, 4, 5, 6, 7, 8};
+    uint32_t v, i;
+    trawl_record_make(message, 0, 0x7E8, data, 8);
+    for (i = 0; i < 40; i++) memcpy(many + 36 * i, message, 36);
+    trawl_power_on(idle, sizeof idle);
+    for (i = 0; i < 3; i++) trawl_connect(idle, sizeof idle, i, 5, 0, 500000, &v);
+    memcpy(full, idle, sizeof full);
+    for (i = 0; i < 3; i++) {
+        trawl_set(full, sizeof full, i + 1, 3, 1);
+        for (v = 0; v < 10; v++) {
+            uint32_t number_;
+            trawl_start_filter(full, sizeof full, i + 1, 1, message, 36, message, 36, &number_);
+            trawl_start_periodic(full, sizeof full, i + 1, message, 36, 5, &number_);
+        }
+        trawl_write(full, sizeof full, i + 1, 16, many, sizeof many, &v);
+        trawl_take(full, sizeof full, i + 1, out, sizeof out);
+        for (v = 0; v < 31; v++) trawl_frame(full, sizeof full, i, 0, 0x7E8, data, 8);
+    }
+    memcpy(broken, full, sizeof broken);
+    broken[TRAWL_MEMORY - 1] = 9;
+}
+
+int main(int argc, char **argv) {
+    static uint8_t *const states[3] = {idle, full, broken};
+    size_t most = 0, of_replay = 0, base, k;
+    boxes();
+    base = depth(nothing);
+    for (k = 0; k < sizeof calls / sizeof *calls; k++) {
+        size_t deepest = 0, s;
+        for (s = 0; s < 3; s++) {
+            size_t d;
+            memcpy(box, states[s], sizeof box);
+            d = depth(calls[k].call);
+            d = d > base ? d - base : 0;
+            if (d > deepest) deepest = d;
+        }
+        if (argc == 1) printf("%-16s %5lu\n", calls[k].name, (unsigned long)deepest);
+        if (calls[k].call == do_replay) of_replay = deepest;
+        else if (deepest > most) most = deepest;
+    }
+    printf("stack: %lu bytes at most, %lu of a replay\n", (unsigned long)most, (unsigned long)of_replay);
+    if (argc > 1 && most > strtoul(argv[1], NULL, 10)) return 1;
+    if (argc > 2 && of_replay > strtoul(argv[2], NULL, 10)) return 1;
+    return 0;
+}
