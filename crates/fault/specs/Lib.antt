@@ -1,0 +1,2 @@
+-- What is wrong with a recording, and where. Assumes nothing.
+pub mod Fault
