@@ -71,6 +71,7 @@ returns-16 c = rw (c .before .before .match .keys16) (cc (c .before .two9 .ensur
 
 returns-17 : tie.Need-returns-17
 returns-17 c = no-arguments _ _ _ (c .match .rest)
+
 pub arguments-spec : {M : Type 1} → statement M
 arguments-spec =
     tie.close
