@@ -2,3 +2,6 @@
 pub mod Passing
 pub mod Parts
 pub mod Walking
+pub mod Agreeing
+pub mod Cases
+pub mod Unique

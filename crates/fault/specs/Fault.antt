@@ -93,7 +93,7 @@ looks =
     ∷ noMore
     ∷ numberAfter
     ∷ (λ s b. piecesAfter 1 s (numberAfter s (twoAfter s b)))
-    ∷ (λ s b. bytesAfter (2 * recordSize) s (twoAfter s b))
+    ∷ (λ s b. bytesAfter recordSize s (bytesAfter recordSize s (twoAfter s b)))
     ∷ twoAfter
     ∷ (λ s b. numberAfter s (bytesAfter recordSize s (numberAfter s b)))
     ∷ twoAfter

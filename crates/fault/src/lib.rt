@@ -148,7 +148,11 @@ fn arguments(recording: &[u8], from: Spot, kind: u32) -> Spot
         3 => from,
         4 => number(recording, from),
         5 => pieces(recording, number(recording, two(recording, from)), 1),
-        6 => bytes(recording, two(recording, from), 2 * recording_sizes::RECORD),
+        6 => bytes(
+            recording,
+            bytes(recording, two(recording, from), recording_sizes::RECORD),
+            recording_sizes::RECORD,
+        ),
         7 => two(recording, from),
         8 => number(
             recording,

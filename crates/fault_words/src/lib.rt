@@ -30,7 +30,6 @@ fn number(fd: i32, reason: u32, at: usize) {
 // Why an event is bad, behind the words that name it, and the line's end.
 pub fn reason(fd: i32, recording: &[u8], spot: Spot) {
     let at = spot.at;
-    let n = number_at(recording, at) as u64;
     let why = spot.reason;
     match why {
         fault::CUT_SHORT => about(
@@ -39,8 +38,13 @@ pub fn reason(fd: i32, recording: &[u8], spot: Spot) {
             at as u64,
             b" on is not all there\n",
         ),
-        fault::OVER_MOST => about(fd, b": an n of ", n, b", which is over 64\n"),
-        fault::UNKNOWN => about(fd, b": there is no event of number ", n, b"\n"),
+        fault::OVER_MOST => about(fd, b": the n at byte ", at as u64, b" is over 64\n"),
+        fault::UNKNOWN => about(
+            fd,
+            b": there is no event of number ",
+            number_at(recording, at) as u64,
+            b"\n",
+        ),
         _ => number(fd, why, at),
     }
 }

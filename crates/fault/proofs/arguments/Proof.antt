@@ -27,7 +27,7 @@ returns-5 c = rw (c .before .before .before .match .keys5) (cc (c .before .befor
 
 returns-6 : tie.Need-returns-6
 unfolding argumentsAfter looks
-returns-6 c = rw (c .before .before .match .keys6) (cc (c .before .two4 .ensures, c .bytes .ensures))
+returns-6 c = rw (c .before .before .before .match .keys6) (cc (c .before .before .two4 .ensures, c .before .bytes .ensures, c .bytes2 .ensures))
 
 returns-7 : tie.Need-returns-7
 unfolding argumentsAfter looks
@@ -35,7 +35,7 @@ returns-7 c = rw (c .before .match .keys7) (c .two5 .ensures)
 
 returns-8 : tie.Need-returns-8
 unfolding argumentsAfter looks
-returns-8 c = rw (c .before .before .before .match .keys8) (cc (c .before .before .number4 .ensures, c .before .bytes2 .ensures, c .number5 .ensures))
+returns-8 c = rw (c .before .before .before .match .keys8) (cc (c .before .before .number4 .ensures, c .before .bytes3 .ensures, c .number5 .ensures))
 
 returns-9 : tie.Need-returns-9
 unfolding argumentsAfter looks
