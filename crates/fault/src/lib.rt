@@ -2,7 +2,7 @@
 ghost use mathlib.Core.Path.{_≡_};
 ghost use Prim.Native.Nat.{_≤_};
 ghost use Rattle.machine.specs.Limits.{recordSize};
-ghost use Rattle.fault.specs.Fault.{whyBad, numberAfter, twoAfter, bytesAfter, piecesAfter, argumentsAfter, eventFault, faultIn};
+ghost use Rattle.fault.specs.Fault.{whyBad, numberAfter, bytesAfter, piecesAfter, argumentsAfter, eventFault, faultIn};
 ghost use Rattle.number.specs.Number.{front};
 ghost use lib.ListN.{drop};
 use events::Found;
@@ -79,13 +79,6 @@ fn number(recording: &[u8], before: Spot) -> Spot
     }
 }
 
-// Looks at two numbers.
-fn two(recording: &[u8], before: Spot) -> Spot
-    ensures { λ r. ⌜ r ≡ twoAfter (now (recording .entry)) before ⌝ }
-{
-    number(recording, number(recording, before))
-}
-
 // Looks at so many raw bytes.
 fn bytes(recording: &[u8], before: Spot, size: usize) -> Spot
     ensures { λ r. ⌜ r ≡ bytesAfter size (now (recording .entry)) before ⌝ }
@@ -138,34 +131,33 @@ fn pieces(recording: &[u8], before: Spot, unit: usize) -> Spot
     bytes(recording, from, unit * (value as usize))
 }
 
-// Looks at the arguments of the event of a number, 1 to 16.
+// Looks at the arguments of the event of a number, 1 to 16. Most begin with one number or two.
 fn arguments(recording: &[u8], from: Spot, kind: u32) -> Spot
     ensures { λ r. ⌜ r ≡ argumentsAfter kind (now (recording .entry)) from ⌝ }
 {
+    let one = number(recording, from);
+    let two = number(recording, one);
     match kind {
-        1 => two(recording, two(recording, from)),
-        2 => number(recording, from),
+        1 => number(recording, number(recording, two)),
+        2 => one,
         3 => from,
-        4 => number(recording, from),
-        5 => pieces(recording, number(recording, two(recording, from)), 1),
+        4 => one,
+        5 => pieces(recording, number(recording, two), 1),
         6 => bytes(
             recording,
-            bytes(recording, two(recording, from), recording_sizes::RECORD),
+            bytes(recording, two, recording_sizes::RECORD),
             recording_sizes::RECORD,
         ),
-        7 => two(recording, from),
-        8 => number(
-            recording,
-            bytes(recording, number(recording, from), recording_sizes::RECORD),
-        ),
-        9 => two(recording, from),
-        10 => pieces(recording, number(recording, from), recording_sizes::RECORD),
-        11 => pieces(recording, number(recording, from), 0),
-        12 => number(recording, from),
-        13 => number(recording, from),
-        14 => two(recording, from),
-        15 => two(recording, from),
-        16 => number(recording, two(recording, from)),
+        7 => two,
+        8 => number(recording, bytes(recording, one, recording_sizes::RECORD)),
+        9 => two,
+        10 => pieces(recording, one, recording_sizes::RECORD),
+        11 => pieces(recording, one, 0),
+        12 => one,
+        13 => one,
+        14 => two,
+        15 => two,
+        16 => number(recording, two),
         _ => from,
     }
 }
