@@ -64,6 +64,11 @@ module _ (s : List ℕ) (at kind next : ℕ) where
   unfolding kindThen
   an-event h = rw h
 
+-- the table's entry for a number
+pub entry : (s : List ℕ) (before : Spot) (k : ℕ) (look : List ℕ → Spot → Spot) → getD looks k noMore ≡ look → {kind : ℕ} → kind ≡ k → look s before ≡ argumentsAfter kind s before
+unfolding argumentsAfter
+entry s before k look h {kind} e = ap (λ (f : List ℕ → Spot → Spot). f s before) (sym h) ∙ ap (λ (j : ℕ). getD looks j noMore s before) (sym e)
+
 -- a number that is no event's has no arguments
 pub no-arguments : (s : List ℕ) (before : Spot) (kind : ℕ) → NoneUpTo 16 kind → before ≡ argumentsAfter kind s before
 unfolding argumentsAfter looks noMore
