@@ -101,6 +101,12 @@ fn event(memory: &mut [u8; MEMORY], recording: &[u8], e: Event) {
     }
 }
 
+// A bad event, where it is and why.
+fn bad(recording: &[u8], at: usize) {
+    trace_words::bad(at);
+    fault_words::reason(STDOUT_FILENO, recording, fault::event(recording, at));
+}
+
 // Shows the events of a recording, each with its answer, up to the end or a bad one. Each has a byte or more, so there are at most as many as bytes.
 fn show(recording: &[u8]) {
     let mut memory = [0u8; MEMORY];
@@ -114,7 +120,7 @@ fn show(recording: &[u8]) {
         }
         trace_words::line(n);
         let Found::Good(e, next) = event_reader::read_event(recording, at) else {
-            trace_words::bad(at);
+            bad(recording, at);
             return;
         };
         event(&mut memory, recording, e);

@@ -5,6 +5,7 @@ use events::Plain;
 use trace_words::bytes;
 use trace_words::code;
 use trace_words::hex;
+use trace_words::named;
 use trace_words::number;
 use trace_words::part;
 use trace_words::records;
@@ -97,10 +98,26 @@ fn frame(line: u32, wide: u32, id: u32, list: &[u8]) {
     bytes(list);
 }
 
+// A channel and a parameter of it, behind a label.
+fn parameter(label: &[u8], channel: u32, n: u32) {
+    number(label, channel);
+    named(b", parameter ", n, b",DATA_RATE,,LOOPBACK");
+}
+
 // A parameter's new value.
-fn set(channel: u32, parameter: u32, value: u32) {
-    two(b"set channel ", channel, b", parameter ", parameter);
+fn set(channel: u32, n: u32, value: u32) {
+    parameter(b"set channel ", channel, n);
     number(b" to ", value);
+}
+
+// A clear.
+fn clear(channel: u32, kind: u32) {
+    number(b"clear channel ", channel);
+    named(
+        b", kind ",
+        kind,
+        b",written records,receive queue,periodics,filters",
+    );
 }
 
 // An advance of the clock.
@@ -127,17 +144,24 @@ pub fn plain(recording: &[u8], e: Plain) {
             two(b"stop periodic, channel ", channel, b", periodic ", n)
         }
         Plain::Sent(channel) => number(b"sent, channel ", channel),
-        Plain::Clear(channel, kind) => two(b"clear channel ", channel, b", kind ", kind),
-        Plain::Set(channel, parameter, value) => set(channel, parameter, value),
+        Plain::Clear(channel, kind) => clear(channel, kind),
+        Plain::Set(channel, n, value) => set(channel, n, value),
     }
 }
 
 // A connect.
 fn connect(line: u32, protocol: u32, flags: u32, rate: u32) {
-    two(b"connect line ", line, b", protocol ", protocol);
+    number(b"connect line ", line);
+    named(b", protocol ", protocol, b",,,,,CAN");
     hex(b", flags 0x", flags);
     number(b", ", rate);
     text(b" bit/s");
+}
+
+// A start of a filter.
+fn start_filter(channel: u32, kind: u32) {
+    number(b"start filter, channel ", channel);
+    named(b", type ", kind, b",PASS_FILTER,BLOCK_FILTER");
 }
 
 // A start of a periodic.
@@ -156,16 +180,14 @@ pub fn giving(e: Giving) {
             mask: _,
             pattern: _,
             end: _,
-        } => two(b"start filter, channel ", channel, b", type ", kind),
+        } => start_filter(channel, kind),
         Giving::StartPeriodic {
             channel,
             from: _,
             end: _,
             interval,
         } => start_periodic(channel, interval),
-        Giving::Get(channel, parameter) => {
-            two(b"get channel ", channel, b", parameter ", parameter)
-        }
+        Giving::Get(channel, n) => parameter(b"get channel ", channel, n),
     }
 }
 

@@ -59,34 +59,59 @@ pub fn part(bytes: &[u8], from: usize, end: usize) -> &[u8] {
     input::first(bytes, 0)
 }
 
-// A code by its name in J2534.
-pub fn code(n: u32) {
-    match n {
-        codes::STATUS_NOERROR => text(b"STATUS_NOERROR"),
-        codes::ERR_NOT_SUPPORTED => text(b"ERR_NOT_SUPPORTED"),
-        codes::ERR_INVALID_CHANNEL_ID => text(b"ERR_INVALID_CHANNEL_ID"),
-        codes::ERR_INVALID_PROTOCOL_ID => text(b"ERR_INVALID_PROTOCOL_ID"),
-        codes::ERR_NULL_PARAMETER => text(b"ERR_NULL_PARAMETER"),
-        codes::ERR_INVALID_IOCTL_VALUE => text(b"ERR_INVALID_IOCTL_VALUE"),
-        codes::ERR_INVALID_FLAGS => text(b"ERR_INVALID_FLAGS"),
-        codes::ERR_FAILED => text(b"ERR_FAILED"),
-        codes::ERR_TIMEOUT => text(b"ERR_TIMEOUT"),
-        codes::ERR_INVALID_MSG => text(b"ERR_INVALID_MSG"),
-        codes::ERR_INVALID_TIME_INTERVAL => text(b"ERR_INVALID_TIME_INTERVAL"),
-        codes::ERR_EXCEEDED_LIMIT => text(b"ERR_EXCEEDED_LIMIT"),
-        codes::ERR_INVALID_MSG_ID => text(b"ERR_INVALID_MSG_ID"),
-        codes::ERR_INVALID_IOCTL_ID => text(b"ERR_INVALID_IOCTL_ID"),
-        codes::ERR_BUFFER_EMPTY => text(b"ERR_BUFFER_EMPTY"),
-        codes::ERR_BUFFER_FULL => text(b"ERR_BUFFER_FULL"),
-        codes::ERR_BUFFER_OVERFLOW => text(b"ERR_BUFFER_OVERFLOW"),
-        codes::ERR_PIN_INVALID => text(b"ERR_PIN_INVALID"),
-        codes::ERR_CHANNEL_IN_USE => text(b"ERR_CHANNEL_IN_USE"),
-        codes::ERR_MSG_PROTOCOL_ID => text(b"ERR_MSG_PROTOCOL_ID"),
-        codes::ERR_INVALID_FILTER_ID => text(b"ERR_INVALID_FILTER_ID"),
-        codes::ERR_INVALID_BAUDRATE => text(b"ERR_INVALID_BAUDRATE"),
-        codes::ERR_INVALID_DEVICE_ID => text(b"ERR_INVALID_DEVICE_ID"),
-        _ => number(b"code ", n),
+// Where the n-th of some words begins, which commas part; the end where there are not so many.
+fn word_start(words: &[u8], n: u32) -> usize {
+    let mut at = 0;
+    let mut left = n;
+    while at < words.len() {
+        if left == 0 {
+            return at;
+        }
+        if words[at] == b',' {
+            left -= 1;
+        }
+        at += 1;
     }
+    at
+}
+
+// Where the word at a place ends.
+fn word_end(words: &[u8], from: usize) -> usize {
+    let mut at = from;
+    while at < words.len() {
+        if words[at] == b',' {
+            return at;
+        }
+        at += 1;
+    }
+    at
+}
+
+// The name of a number: the word of its place in a list, in brackets. Nothing where it has none.
+pub fn name(n: u32, words: &[u8]) {
+    let from = word_start(words, n);
+    let word = part(words, from, word_end(words, from));
+    if word.len() > 0 {
+        text(b" (");
+        text(word);
+        text(b")");
+    }
+}
+
+// A label, a number and its name.
+pub fn named(label: &[u8], n: u32, words: &[u8]) {
+    number(label, n);
+    name(n, words);
+}
+
+// A code and its name in J2534.
+pub fn code(n: u32) {
+    text(b"0x");
+    io::print_hex(STDOUT_FILENO, n as u64, 2);
+    name(
+        n,
+        b"STATUS_NOERROR,ERR_NOT_SUPPORTED,ERR_INVALID_CHANNEL_ID,ERR_INVALID_PROTOCOL_ID,ERR_NULL_PARAMETER,ERR_INVALID_IOCTL_VALUE,ERR_INVALID_FLAGS,ERR_FAILED,,ERR_TIMEOUT,ERR_INVALID_MSG,ERR_INVALID_TIME_INTERVAL,ERR_EXCEEDED_LIMIT,ERR_INVALID_MSG_ID,,ERR_INVALID_IOCTL_ID,ERR_BUFFER_EMPTY,ERR_BUFFER_FULL,ERR_BUFFER_OVERFLOW,ERR_PIN_INVALID,ERR_CHANNEL_IN_USE,ERR_MSG_PROTOCOL_ID,ERR_INVALID_FILTER_ID,,,ERR_INVALID_BAUDRATE,ERR_INVALID_DEVICE_ID",
+    );
 }
 
 // Spaces before a number, so that numbers of up to five digits end in one column.
@@ -113,5 +138,4 @@ pub fn line(n: usize) {
 pub fn bad(at: usize) {
     text(b"bad event at byte ");
     io::print_decimal(STDOUT_FILENO, at as u64);
-    text(b"\n");
 }

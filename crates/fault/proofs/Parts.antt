@@ -1,0 +1,85 @@
+-- One part of an event after another: what was wrong stays so, what is good is looked at further. Assumes nothing.
+use Prim.Native.Nat.{ℕ, zero, suc, _+_, _*_, _≤_, _<_}
+use mathlib.Core.Bool.{Bool, true, false, _||_}
+use mathlib.Core.List.{List}
+use mathlib.Core.Path.{_≡_, refl, sym, ap, _∙_}
+use native.Mathlib.Omega.{arith}
+use borrow.Author.Tests.{leb-true, leb-false, le-leb, lt-leb, ne-eqb, eq-eqb}
+use lib.Dec.{eqb, leb, ltb}
+use lib.ListN.{length, drop, getD, List·getD-eq-default}
+use Rattle.number.specs.declared.Number.{Number}
+use Rattle.number.specs.declared.Number.the-variants.{Value, Bad}
+use Rattle.number.specs.Number.{front}
+use Rattle.number.specs.Place.{numberAt}
+use Rattle.codec.specs.Plain.{if_then_else_}
+use Rattle.fault.specs.declared.Spot.{Spot}
+use Rattle.fault.specs.Fault.{spot, andThen, whyBad, numberThen, bytesFrom, bytesAfter, piecesFrom, noMore, looks, argumentsAfter, kindThen}
+use Rattle.events.proofs.Reading.{NoneUpTo}
+
+module _ (look : ℕ → Spot) (before : Spot) where
+  pub stays : (before .reason ≡ 0 → ⊥) → before ≡ andThen look before
+  unfolding andThen
+  stays n = rw (ne-eqb (before .reason) 0 n)
+
+  pub goes-on : before .reason ≡ 0 → andThen look before ≡ look (before .at)
+  unfolding andThen
+  goes-on e = rw (eq-eqb (before .reason) 0 e)
+
+module _ (size : ℕ) (s : List ℕ) (at : ℕ) where
+  pub bytes-there : at + size ≤ length s → spot 0 (at + size) ≡ bytesFrom size s at
+  unfolding bytesFrom
+  bytes-there h = rw (le-leb (at + size) (length s) h)
+
+  pub bytes-cut : length s < at + size → spot 1 at ≡ bytesFrom size s at
+  unfolding bytesFrom
+  bytes-cut h = rw (lt-leb (at + size) (length s) h)
+
+-- a number and what comes after it, by what the reader of numbers answered
+module _ (s : List ℕ) (at : ℕ) (more : ℕ → ℕ → Spot) (r : Number) (e : r ≡ numberAt s at) where
+  pub number-good : {v n : ℕ} → r ≡ Value v n → more v n ≡ numberThen s at more (numberAt s at)
+  unfolding numberThen
+  number-good g = ap (numberThen s at more) (sym g ∙ e)
+
+  pub number-bad : {w : ℕ} → r ≡ Bad → w ≡ whyBad (front (drop at s)) → spot w at ≡ numberThen s at more (numberAt s at)
+  unfolding numberThen
+  number-bad g h = ap (λ (x : ℕ). spot x at) h ∙ ap (numberThen s at more) (sym g ∙ e)
+
+-- an n, and n pieces of raw bytes
+module _ (unit : ℕ) (s : List ℕ) (at n next : ℕ) where
+  pub too-many : 64 < n → spot 4 at ≡ piecesFrom unit s at n next
+  unfolding piecesFrom
+  too-many h = rw (lt-leb n 64 h)
+
+  pub few-enough : n ≤ 64 → bytesAfter (unit * n) s (spot 0 next) ≡ piecesFrom unit s at n next
+  unfolding piecesFrom bytesAfter andThen
+  few-enough h = rw (le-leb n 64 h)
+
+-- the number of an event, and its arguments
+module _ (s : List ℕ) (at kind next : ℕ) where
+  pub no-event : (ltb kind 1 || ltb 16 kind) ≡ true → spot 5 at ≡ kindThen s at kind next
+  unfolding kindThen
+  no-event h = rw h
+
+  pub an-event : (ltb kind 1 || ltb 16 kind) ≡ false → argumentsAfter kind s (spot 0 next) ≡ kindThen s at kind next
+  unfolding kindThen
+  an-event h = rw h
+
+-- the table's entry for a number
+pub entry : (s : List ℕ) (before : Spot) (k : ℕ) (look : List ℕ → Spot → Spot) → getD looks k noMore ≡ look → {kind : ℕ} → kind ≡ k → look s before ≡ argumentsAfter kind s before
+unfolding argumentsAfter
+entry s before k look h {kind} e = ap (λ (f : List ℕ → Spot → Spot). f s before) (sym h) ∙ ap (λ (j : ℕ). getD looks j noMore s before) (sym e)
+
+-- a number that is no event's has no arguments
+pub no-arguments : (s : List ℕ) (before : Spot) (kind : ℕ) → NoneUpTo 16 kind → before ≡ argumentsAfter kind s before
+unfolding argumentsAfter looks noMore
+no-arguments s before kind h = go (leb kind 16) refl
+  where
+    zero-is : (n : ℕ) → NoneUpTo n kind → kind ≤ n → kind ≡ 0
+    zero-is zero h l = omega arith
+    zero-is (suc n) h l = let other = h .1 in zero-is n (h .0) (omega arith)
+
+    go : (b : Bool) → leb kind 16 ≡ b → before ≡ getD looks kind noMore s before
+    go true q = rw (zero-is 16 h (leb-true kind 16 q))
+    go false q =
+        let past : length looks ≤ kind = omega (arith, leb-false kind 16 q) in
+        ap (λ (p : List ℕ → Spot → Spot). p s before) (sym (List·getD-eq-default looks noMore past))

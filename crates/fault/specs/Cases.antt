@@ -1,0 +1,35 @@
+-- Worked examples of bad recordings, as a table. The proof that they hold is in proofs/Cases. Assumes nothing.
+use Prim.Native.Nat.{ℕ}
+use mathlib.Core.List.{List, [], _∷_, map}
+use mathlib.Core.Path.{_≡_}
+use Rattle.fault.specs.declared.Fault.{Fault}
+use Rattle.fault.specs.Fault.{cutShort, notShortest, tooLarge, overMost, unknown, fault, nothing, faultIn}
+
+-- a recording, and what is wrong with it
+pub record Case : Type 0 where
+  pub bytes : List ℕ
+  pub told : Fault
+
+abbrev pub case : List ℕ → Fault → Case
+case b f = record { bytes = b; told = f }
+
+-- nothing; the whole example of the scope; an event 17 after it, and one of number 0; a close in two bytes; a connect that is cut short in its
+-- rate, within a number and before one; a rate of 2 ^ 32; a read of 65; a frame with one byte of two; a close and a filter without its records
+abbrev pub table : List Case
+table =
+    case [] nothing
+    ∷ case (1 ∷ 0 ∷ 5 ∷ 0 ∷ 0xA0 ∷ 0xC2 ∷ 0x1E ∷ 11 ∷ 1 ∷ 1 ∷ []) nothing
+    ∷ case (1 ∷ 0 ∷ 5 ∷ 0 ∷ 0xA0 ∷ 0xC2 ∷ 0x1E ∷ 11 ∷ 1 ∷ 1 ∷ 17 ∷ []) (fault unknown 3 10 10)
+    ∷ case (3 ∷ 0 ∷ []) (fault unknown 2 1 1)
+    ∷ case (3 ∷ 0x83 ∷ 0 ∷ []) (fault notShortest 2 1 1)
+    ∷ case (1 ∷ 0 ∷ 5 ∷ 0 ∷ 0xA0 ∷ []) (fault cutShort 1 0 4)
+    ∷ case (1 ∷ 0 ∷ 5 ∷ 0 ∷ []) (fault cutShort 1 0 4)
+    ∷ case (1 ∷ 0 ∷ 5 ∷ 0 ∷ 0x80 ∷ 0x80 ∷ 0x80 ∷ 0x80 ∷ 0x10 ∷ []) (fault tooLarge 1 0 4)
+    ∷ case (11 ∷ 1 ∷ 65 ∷ []) (fault overMost 1 0 2)
+    ∷ case (5 ∷ 0 ∷ 0 ∷ 1 ∷ 2 ∷ 9 ∷ []) (fault cutShort 1 0 5)
+    ∷ case (3 ∷ 6 ∷ 1 ∷ 1 ∷ []) (fault cutShort 2 1 4)
+    ∷ []
+
+-- each is told as the table says
+abbrev pub CasesHold : Type 0
+CasesHold = map (λ (c : Case). faultIn (c .bytes)) table ≡ map (λ (c : Case). c .told) table
