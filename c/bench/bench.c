@@ -163,11 +163,14 @@ static uint8_t *some(uint8_t *p, const uint8_t *from, size_t n) {
     return p + n;
 }
 
+/* what the recordings are made with: the identifier of the frames, and how many of the filters, the last ones, are block filters */
+static uint32_t offered = 0x7E8, blocks = 0;
+
 static uint8_t *one_event(uint8_t *p, int kind, uint32_t i) {
     uint32_t line = i & 3;
     switch (kind) {
     case 4: return put(put(p, 4), 1000);
-    case 5: return some(put(put(put(put(put(p, 5), line), 0), 0x7E8), 8), data8, 8);
+    case 5: return some(put(put(put(put(put(p, 5), line), 0), offered), 8), data8, 8);
     case 10: return some(put(put(put(p, 10), line + 1), 1), message, 36);
     case 11: return put(put(put(p, 11), line + 1), 1);
     case 12: return put(put(p, 12), line + 1);
@@ -185,7 +188,7 @@ static size_t make(const int *kinds, unsigned n, uint32_t filters, unsigned *eve
         p = put(put(put(put(put(p, 1), line), 5), 0), 500000);
         for (uint32_t i = 0; i < filters; i++) {
             record(pattern, 4, i + 1 == filters ? 0x7E8 : 0x700 + i);
-            p = some(some(put(put(put(p, 6), line + 1), 1), mask, 36), pattern, 36);
+            p = some(some(put(put(put(p, 6), line + 1), i + blocks < filters ? 1 : 2), mask, 36), pattern, 36);
         }
     }
     *events = 4 + 4 * filters;
@@ -215,6 +218,7 @@ static void inner(const char *name, const int *kinds, unsigned n, uint32_t filte
 
 int main(int argc, char **argv) {
     static uint8_t idle[MEMORY], typical[MEMORY], full[MEMORY];
+    static const int only_frames[] = {5};
     static const int frames[] = {5, 5, 5, 11, 11, 11}, advances[] = {4}, sends[] = {10, 12, 13}, gets[] = {15, 16}, mixed[] = {5, 5, 11, 12, 4, 5, 11, 13};
     if (argc > 1) runs = atoi(argv[1]) > 0 ? atoi(argv[1]) : runs;
     record(message, 8, 0x7E0);
@@ -224,6 +228,11 @@ int main(int argc, char **argv) {
     printf("\nreplayed, inner calls: ns an event  core   twin    ratio\n");
     inner("frames and reads, 3 filters", frames, 6, 3);
     inner("frames and reads, 10 filters", frames, 6, 10);
+    blocks = 3;
+    inner("frames blocked, 10 filters", only_frames, 1, 10);
+    offered = 0x123;
+    inner("frames unmatched, 10 filters", only_frames, 1, 10);
+    offered = 0x7E8, blocks = 0;
     inner("advance", advances, 1, 0);
     inner("write, take, sent", sends, 3, 0);
     inner("get and set", gets, 2, 0);

@@ -244,14 +244,15 @@ static int matches(const channel_t *c, int i, int wide, const uint8_t frame[ROW]
     return 1;
 }
 
+/* does a filter of this type match? */
+static int hits(const channel_t *c, int type, int wide, const uint8_t frame[ROW]) {
+    for (int i = 0; i < FILTERS; i++)
+        if (c->type[i] == type && matches(c, i, wide, frame)) return 1;
+    return 0;
+}
+
 static int let_in(const channel_t *c, int wide, const uint8_t frame[ROW]) {
-    int passed = 0;
-    for (int i = 0; i < FILTERS; i++) {
-        if (c->type[i] == 0 || !matches(c, i, wide, frame)) continue;
-        if (c->type[i] == 2) return 0;
-        passed = 1;
-    }
-    return passed;
+    return !hits(c, 2, wide, frame) && hits(c, 1, wide, frame);
 }
 
 uint32_t twin_frame(uint8_t *m, size_t len, uint32_t line, uint32_t wide, uint32_t id, const uint8_t *data, size_t n) {

@@ -7,7 +7,7 @@ use mathlib.Core.Option.{Option, none}
 use mathlib.Core.List.{List, [], _∷_, map}
 use lib.Dec.{T, eqb, leb, eqb→eq, lt→ltb}
 use lib.ListN.{length, getD, set, take, drop, length-set, length-map, List·getD-map}
-use borrow.Author.Tests.{eq-eqb, ne-eqb}
+use borrow.Author.Tests.{eqb-true, eq-eqb, ne-eqb}
 use mir.Val.{boolByte}
 use borrow.Rule.Slice.PartMut.{putMid}
 use Rattle.codec.specs.Plain.{if_then_else_, within, all, isByte, allZero}
@@ -65,6 +65,12 @@ small : (e : Bool) (flags k n : ℕ) (w : Bool) (a b : List ℕ)
     → T (if e then not w && eqb n 0 && allZero a && allZero b else leb k 2 && takes flags w && within 1 mostData n && allZero (drop n a) && allZero (drop n b)) → n ≤ mostData
 small true flags k n w a b t = let z : n ≡ 0 = eqb→eq n 0 (search (left, right)) in omega arith
 small false flags k n w a b t = filter-fits flags k n w a b t .high
+
+-- a type is at most 2
+known : (e : Bool) (flags k n : ℕ) (w : Bool) (a b : List ℕ) → eqb k 0 ≡ e
+    → T (if e then not w && eqb n 0 && allZero a && allZero b else leb k 2 && takes flags w && within 1 mostData n && allZero (drop n a) && allZero (drop n b)) → k ≤ 2
+known true flags k n w a b e t = let z : k ≡ 0 = eqb-true k 0 e in omega arith
+known false flags k n w a b e t = filter-fits flags k n w a b t .kind
 
 -- an empty place has type 0
 back-none : (k : ℕ) (p : Bool × (ℕ × (List ℕ × List ℕ))) → k ≡ 0 → taken (filterBack (k, p)) ≡ false
@@ -153,6 +159,12 @@ module _ (m : List ℕ) (v : FilterPart m) where
     unfolding filterFits
     size-small =
         subst (λ (k : ℕ). k ≤ mostData) (sym size-at) (small (eqb (rowAt .0) 0) (v .flags) (rowAt .0) (rowAt .1 .1 .0) (rowAt .1 .0) (rowAt .1 .1 .1 .0) (rowAt .1 .1 .1 .1)
+        (all-here (filterFits (v .flags)) rowsOf i nothing rows-fit here))
+
+    pub kind-known : getD m i 0 ≤ 2
+    unfolding filterFits
+    kind-known =
+        subst (λ (k : ℕ). k ≤ 2) (sym type-at) (known (eqb (rowAt .0) 0) (v .flags) (rowAt .0) (rowAt .1 .1 .0) (rowAt .1 .0) (rowAt .1 .1 .1 .0) (rowAt .1 .1 .1 .1) refl
         (all-here (filterFits (v .flags)) rowsOf i nothing rows-fit here))
 
 -- ---- what is stored

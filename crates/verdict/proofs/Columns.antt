@@ -1,25 +1,22 @@
 -- What the verdict reads in the columns of the filters is what is held. Assumes nothing.
-use mathlib.Core.Path.{_≡_, sym, ap, ap₂, _∙_}
-use Prim.Native.Nat.{ℕ, _+_, _*_, _<_}
+use mathlib.Core.Path.{_≡_, sym, ap, ap₂, subst, _∙_}
+use Prim.Native.Nat.{ℕ, _+_, _*_, _≤_, _<_}
 use native.Mathlib.Omega.{arith}
-use mathlib.Core.Bool.{Bool, true, false, not, _&&_}
+use mathlib.Core.Bool.{Bool, true, false}
 use mathlib.Core.Option.{Option, none}
 use mathlib.Core.List.{List, []}
-use lib.Dec.{T, eqb, eqb→eq}
+use lib.Dec.{eqb}
 use lib.ListN.{length, getD, take, drop}
 use lib.Seq.{getD-take, ext-getD, length-take-le}
-use Rattle.codec.specs.Plain.{allZero}
-use Rattle.codec.proofs.Tests.{true-T}
-use Rattle.codec.proofs.Cells.{all-here}
 use Rattle.machine.specs.Limits.{mostPlaces, mostData}
-use Rattle.machine.specs.Filter.{Slots, Filter, hits, passes}
-use Rattle.machine.proofs.Slots.{any-empty}
+use Rattle.machine.specs.Filter.{Slots, Filter, passes}
 use Rattle.layout.specs.Sizes.{widthsIn, sizesIn, masksIn, patternsIn}
 use Rattle.layout.specs.Memory.{filterBack, filters}
 use Rattle.filterbank.specs.Part.{FilterPart}
-use Rattle.filterbank.proofs.Held.{rowAt, ten-held, held-at, type-at, width-at, size-at, mask-at, pattern-at, is-empty}
-use Rattle.verdict.specs.Columns.{listed, tenRows, filterAt, filtersIn}
-use Rattle.verdict.proofs.Listed.{listed-long, listed-at}
+use Rattle.filterbank.proofs.Held.{rowAt, ten-held, held-at, type-at, width-at, size-at, mask-at, pattern-at, kind-known, size-small}
+use Rattle.filterwalk.specs.Columns.{listed, Heads, noneOf, tenRows, filterAt, filtersIn}
+use Rattle.filterwalk.proofs.Listed.{listed-long, listed-at}
+use Rattle.filterwalk.proofs.Looks.{none-hits, none-passed}
 
 module _ (m : List ℕ) (v : FilterPart m) where
   abbrev columns : ℕ → Option Filter
@@ -53,14 +50,18 @@ module _ (m : List ℕ) (v : FilterPart m) where
       ∙ ap₂ (λ (x y : List (List ℕ)). passes (filtersIn (take masksIn m) x y) wide frame) em ep
       ∙ ap (λ (fs : Slots Filter). passes fs wide frame) (columns-held flags)
 
-  -- with ten types 0 no frame is let in
-  pub none-held : allZero (take mostPlaces m) ≡ true → (flags : ℕ) (wide : Bool) (bytes : List ℕ) → false ≡ passes (filters flags .get m) wide bytes
-  unfolding passes hits
-  none-held z flags wide bytes =
-      let ten : length (take mostPlaces m) ≡ mostPlaces = length-take-le mostPlaces m (omega (arith, v .long)) in
-      let t : T (allZero (take mostPlaces m)) = true-T (allZero (take mostPlaces m)) z in
-      let zero-at : (i : ℕ) → i < mostPlaces → getD m i 0 ≡ 0 =
-      λ i h. sym (getD-take mostPlaces m i 0 h) ∙ sym (eqb→eq 0 (getD (take mostPlaces m) i 0) (all-here (eqb 0) (take mostPlaces m) i 0 t (omega arith))) in
-      let e : hits false (filters flags .get m) wide bytes ≡ false =
-      any-empty _ (filters flags .get m) (λ i h. let k : i < mostPlaces = omega (arith, ten-held m v flags) in is-empty m v i k (zero-at i k) flags) in
-      sym (ap (λ (b : Bool). b && not (hits true (filters flags .get m) wide bytes)) e)
+  -- the heads of the filters that are held, as they are lent
+  pub heads-held : Heads (take masksIn m)
+  heads-held =
+      record {
+        long = length-take-le masksIn m (omega (arith, v .long));
+        kinds = λ f h. subst (λ (k : ℕ). k ≤ 2) (sym (getD-take masksIn m f 0 (omega arith))) (kind-known m v f h);
+        sizes = λ f h. subst (λ (k : ℕ). k ≤ mostData) (sym (getD-take masksIn m (sizesIn + f) 0 (omega arith))) (size-small m v f h);
+      }
+
+  -- with no pass filter no frame is let in
+  pub none-held : (wide : Bool) (bytes : List ℕ) → true ≡ noneOf (take masksIn m) 1 → (flags : ℕ) → false ≡ passes (filters flags .get m) wide bytes
+  none-held wide bytes z flags =
+      none-passed (filtersIn (take masksIn m) (tenRows masksIn m) (tenRows patternsIn m)) wide bytes
+      (none-hits (take masksIn m) (tenRows masksIn m) (tenRows patternsIn m) 1 wide bytes heads-held (omega arith) (omega arith) z)
+      ∙ ap (λ (fs : Slots Filter). passes fs wide bytes) (columns-held flags)

@@ -1,4 +1,2 @@
-pub mod Listed
 pub mod Columns
-pub mod Looks
 pub mod Frame

@@ -1,33 +1,25 @@
--- `verdict::lets_in` meets its contract: what the verdict finds in the columns is what is held. Assumes nothing.
-use mathlib.Core.Path.{sym, subst, _∙_}
-use mathlib.Core.List.{List}
-use Prim.Native.Nat.{ℕ, _+_, _≤_}
-use native.Mathlib.Omega.{arith}
-use lib.Seq.{getD-take, length-take-le}
+-- `verdict::lets_in` meets its contract: what the walk finds in the columns is what is held. Assumes nothing.
+use mathlib.Core.Path.{sym, _∙_}
 use denote.Ref.{now}
 use borrow.Author.Needs.{needs}
-use Rattle.machine.specs.Limits.{mostData}
-use Rattle.layout.specs.Sizes.{sizesIn, masksIn}
-use Rattle.filterbank.proofs.Held.{size-small}
-use Rattle.verdict.proofs.Columns.{none-held, found}
+use Rattle.verdict.proofs.Columns.{heads-held, none-held, found}
 use Rattle.verdict.proofs.lets_in.Statement.{statement}
 use Rattle.verdict.proofs.lets_in.Tie as tie
 
 returns : tie.Need-returns
 returns c =
     let start = c .before .before .before .before in
-    λ flags. none-held (now (start .args .part)) (start .pre) (sym (c .before .all-zero .ensures) ∙ c .if1 .taken) flags (start .args .wide) (start .args .frame)
+    none-held (now (start .args .part)) (start .pre) (start .args .wide) _ (sym (c .if1 .taken) ∙ c .before .none-of .ensures)
 
 verdict-requires : tie.Need-verdict-requires
 verdict-requires c κs =
-    let start = c .before .before .before .before .before .before .before in
-    let m : List ℕ = now (start .args .part) in
-    (length-take-le masksIn m (omega (arith, start .pre .long)), λ f h. subst (λ (k : ℕ). k ≤ mostData) (sym (getD-take masksIn m (sizesIn + f) 0 (omega arith))) (size-small m (start .pre) f h))
+    let start = c .before .before .before .before .before .before .before .before in
+    heads-held (now (start .args .part)) (start .pre)
 
 returns-2 : tie.Need-returns-2
 returns-2 c =
-    let start = c .before .before .before .before .before .before .before .before in
-    found (now (start .args .part)) (start .pre) _ _ (start .args .wide) (start .args .frame) (c .verdict .result) (c .before .before .before .rows .ensures) (c .before .before .rows2 .ensures) (c .verdict .ensures)
+    let start = c .before .before .before .before .before .before .before .before .before in
+    found (now (start .args .part)) (start .pre) _ _ (start .args .wide) _ (c .verdict .result) (c .before .before .before .before .rows .ensures) (c .before .before .before .rows2 .ensures) (c .verdict .ensures)
 
 pub lets-in-spec : {M : Type 1} → statement M
 lets-in-spec =

@@ -8,7 +8,7 @@ use mathlib.Core.Logic.{⊎-elim}
 use mathlib.Core.List.{List, [], _∷_}
 use lib.ListN.{length, getD, set, take, length-append, List·getD-append}
 use lib.Seq.{take-suc-set, take-all, getD-at}
-use Rattle.verdict.specs.Columns.{listed}
+use Rattle.filterwalk.specs.Columns.{listed}
 
 module _ {A : Type 0} (at : ℕ → A) where
   pub listed-long : (n : ℕ) → length (listed n at) ≡ n

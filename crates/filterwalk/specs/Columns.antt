@@ -1,18 +1,31 @@
 -- The ten filters of their columns, as the verdict reads them. Assumes nothing.
-use Prim.Native.Nat.{ℕ, zero, suc, _+_, _*_}
+use mathlib.Core.Path.{_≡_}
+use Prim.Native.Nat.{ℕ, zero, suc, _+_, _*_, _≤_, _<_}
+use mathlib.Core.Bool.{Bool, not}
 use mathlib.Core.Option.{Option}
 use mathlib.Core.List.{List, [], _∷_, _++_}
 use lib.Dec.{eqb}
-use lib.ListN.{getD, take, drop}
+use lib.ListN.{length, getD, take, drop}
+use Rattle.codec.specs.Plain.{allBelow}
 use Rattle.machine.specs.Limits.{mostPlaces, mostData}
 use Rattle.machine.specs.Filter.{Slots, Filter}
-use Rattle.layout.specs.Sizes.{widthsIn, sizesIn}
+use Rattle.layout.specs.Sizes.{widthsIn, sizesIn, masksIn}
 use Rattle.layout.specs.Memory.{filterBack}
 
 -- the values at 0 to n - 1
 unfoldable pub listed : {A : Type 0} → ℕ → (ℕ → A) → List A
 listed zero at = []
 listed (suc n) at = listed n at ++ (at n ∷ [])
+
+-- ten types, ten width marks and ten sizes, within their limits
+pub record Heads (heads : List ℕ) : Type 0 where
+  pub long : length heads ≡ masksIn
+  pub kinds : (f : ℕ) → f < mostPlaces → getD heads f 0 ≤ 2
+  pub sizes : (f : ℕ) → f < mostPlaces → getD heads (sizesIn + f) 0 ≤ mostData
+
+-- none of the ten places has a filter of this type
+unfoldable pub noneOf : List ℕ → ℕ → Bool
+noneOf heads kind = allBelow mostPlaces (λ f. not (eqb (getD heads f 0) kind))
 
 -- ten rows of twelve bytes, one after the other from a place on
 unfoldable pub tenRows : ℕ → List ℕ → List (List ℕ)

@@ -1,0 +1,107 @@
+-- `filterwalk::hits` meets its contract. The outer loop's invariant: the places below `next` are looked at; the inner one's adds that the place before
+-- `next` has a filter of the type and of the frame's width, and that each byte below b fits. Assumes nothing.
+use mathlib.Core.Path.{_≡_, refl}
+use mathlib.Core.Bool.{true, Bool·beq}
+use mathlib.Core.List.{[]}
+use Prim.Native.Nat.{_+_, _-_, _≤_, _<_}
+use native.Mathlib.Omega.{arith}
+use lib.Dec.{eqb}
+use lib.ListN.{getD}
+use borrow.Author.Needs.{needs}
+use borrow.Author.Tests.{eq-eqb, ne-eqb, not-true, not-false}
+use Rattle.codec.specs.Plain.{allBelow}
+use Rattle.machine.specs.Limits.{mostPlaces, mostData}
+use Rattle.layout.specs.Sizes.{widthsIn, sizesIn}
+use Rattle.filterwalk.proofs.Looks.{all-more, fitsAt, Looked, looked-none, looked-all, other-type, other-width, other-byte, all-bytes}
+use Rattle.filterwalk.proofs.hits.Statement.{statement}
+use Rattle.filterwalk.proofs.hits.Tie as tie
+
+abbrev Inv-loop : tie.InvT-loop
+Inv-loop heads masks patterns kind wide frame next f size b₀ b = (b ≤ size) × (size ≤ mostData) × (allBelow b (fitsAt frame (getD masks f []) (getD patterns f [])) ≡ true)
+
+abbrev μ-loop : tie.MeasureT-loop
+μ-loop heads masks patterns kind wide frame next f size b₀ b = size - b
+
+abbrev Inv-filters : tie.InvT-filters
+Inv-filters heads masks patterns kind wide frame next₀ next = Looked heads masks patterns kind wide frame next
+
+abbrev μ-filters : tie.MeasureT-filters
+μ-filters heads masks patterns kind wide frame next₀ next = mostPlaces - next
+
+filters-holds : tie.Need-filters-holds Inv-loop μ-loop Inv-filters μ-filters
+filters-holds c = looked-none _ _ _ _ _ _
+
+filters-again : tie.Need-filters-again Inv-loop μ-loop Inv-filters μ-filters
+filters-again c =
+    let l = c .before .before .before .filters in
+    let start = c .before .before .before .before in
+    let h : l .next < mostPlaces = search needs in
+    other-type _ _ _ _ _ _ (l .next) h (l .inv) (start .pre .0 .kinds (l .next) h) (start .pre .1) (start .pre .2) (c .if1 .taken)
+
+filters-again-2 : tie.Need-filters-again-2 Inv-loop μ-loop Inv-filters μ-filters
+filters-again-2 c =
+    let l = c .before .before .before .before .before .filters in
+    other-width _ _ _ _ _ _ (l .next) (search needs) (l .inv) (c .before .before .before .before .before .before .pre .1) (c .before .before .if1 .left) (not-true _ (c .if2 .taken))
+
+cast-size : tie.Need-cast-size Inv-loop μ-loop Inv-filters μ-filters
+cast-size c = omega (arith, c .shared-slice-known3 .given (sizesIn + c .before .before .before .before .before .before .filters .next))
+
+loop-holds : tie.Need-loop-holds Inv-loop μ-loop Inv-filters μ-filters
+unfolding allBelow
+loop-holds c = (search needs, c .before .before .before .before .before .before .before .pre .0 .sizes (c .before .before .before .before .before .before .filters .next) (search needs), refl)
+
+filters-again-3 : tie.Need-filters-again-3 Inv-loop μ-loop Inv-filters μ-filters
+filters-again-3 c =
+    let l = c .before .before .before .before .before .before .before .before .before .before .before .before .filters in
+    let b = c .before .before .before .before .before .loop .b in
+    other-byte _ _ _ _ _ _ (l .next) (search needs) (l .inv) (c .before .before .before .before .before .before .before .before .before .before .before .before .before .pre .1) (c .before .before .before .before .before .before .before .before .before .if1 .left) b (search needs) (ne-eqb _ _ (c .if3 .taken))
+
+loop-again : tie.Need-loop-again Inv-loop μ-loop Inv-filters μ-filters
+loop-again c =
+    let v = c .before .before .before .before .before .loop .inv in
+    (search needs, v .1, all-more _ _ (v .2) (eq-eqb _ _ (c .if3 .left)))
+
+returns : tie.Need-returns Inv-loop μ-loop Inv-filters μ-filters
+returns c =
+    let l = c .before .before .before .before .before .before .before .before .filters in
+    let i = c .before .loop in
+    all-bytes _ _ _ _ _ _ (l .next) (search needs) (l .inv) (c .before .before .before .before .before .before .before .before .before .pre .1) (c .before .before .before .before .before .if1 .left) (i .b) (not-false _ (c .before .before .before .if2 .left)) (search needs) (i .inv .2)
+
+returns-2 : tie.Need-returns-2 Inv-loop μ-loop Inv-filters μ-filters
+returns-2 c = looked-all _ _ _ _ _ _ _ (c .before .filters .inv) (search needs)
+
+pub hits-spec : {M : Type 1} → statement M
+hits-spec =
+    tie.close
+    (tie.spec
+    Inv-loop
+    μ-loop
+    Inv-filters
+    μ-filters
+    filters-holds
+    (λ c. search needs)
+    (λ c. search needs)
+    (λ c. search needs)
+    filters-again
+    (λ c. search needs)
+    (λ c. search needs)
+    (λ c. search needs)
+    filters-again-2
+    (λ c. search needs)
+    (λ c. search needs)
+    cast-size
+    loop-holds
+    (λ c. search needs)
+    (λ c. search needs)
+    (λ c. search needs)
+    (λ c. search needs)
+    (λ c. search needs)
+    (λ c. search needs)
+    (λ c. search needs)
+    (λ c. search needs)
+    filters-again-3
+    (λ c. search needs)
+    (λ c. search needs)
+    loop-again
+    returns
+    returns-2)

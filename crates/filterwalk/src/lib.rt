@@ -1,0 +1,83 @@
+// The walk of ten filters over a frame: block filters first, pass filters only where no block filter matches, each up to the first that matches.
+ghost use mathlib.Core.Path.{_≡_};
+ghost use Prim.Native.Nat.{_≤_};
+ghost use lib.Dec.{eqb};
+ghost use lib.ListN.{length};
+ghost use Rattle.machine.specs.Filter.{hits as someHits, passes};
+ghost use Rattle.layout.specs.Sizes.{masksIn};
+ghost use Rattle.filterwalk.specs.Columns.{Heads, noneOf, filtersIn};
+use places::PLACES;
+use places::ROW;
+use places::SIZES_IN;
+use places::WIDTHS_IN;
+
+// The types of filters.
+pub const PASS: u8 = 1;
+
+pub const BLOCK: u8 = 2;
+
+// Has none of the ten places a filter of this type? No exit inside the loop, so that it runs on whole vectors.
+pub fn none_of(heads: &[u8], kind: u8) -> bool
+    requires { ⌜ length (now heads) ≡ masksIn ⌝ }
+    ensures { λ r. ⌜ r ≡ noneOf (now (heads .entry)) kind ⌝ }
+{
+    let mut none = true;
+    for f in 0..PLACES {
+        none = none & (heads[f] != kind);
+    }
+    none
+}
+
+// Does a filter of this type and of the frame's width match? Of the heads the first ten are the types, then ten width marks and ten sizes. The
+// comparison of one filter ends at the first byte that differs, the walk at the first filter that matches.
+fn hits(
+    heads: &[u8],
+    masks: &[[u8; ROW]; PLACES],
+    patterns: &[[u8; ROW]; PLACES],
+    kind: u8,
+    wide: bool,
+    frame: &[u8; ROW],
+) -> bool
+    requires { ⌜ Heads (now heads) × (1 ≤ kind) × (kind ≤ 2) ⌝ }
+    ensures { λ r. ⌜ r ≡ someHits (eqb kind 2) (filtersIn (now (heads .entry)) (now (masks .entry)) (now (patterns .entry))) wide (now (frame .entry)) ⌝ }
+{
+    let mut next = 0;
+    'filters: while next < PLACES {
+        let f = next;
+        next += 1;
+        if heads[f] != kind {
+            continue;
+        }
+        if wide != (1 == heads[WIDTHS_IN + f]) {
+            continue;
+        }
+        let size = heads[SIZES_IN + f] as usize;
+        for b in 0..size {
+            if frame[b] & masks[f][b] != patterns[f][b] {
+                continue 'filters;
+            }
+        }
+        return true;
+    }
+    false
+}
+
+// The verdict of ten filters on a frame: some pass filter matches, and no block filter does.
+pub fn verdict(
+    heads: &[u8],
+    masks: [[u8; ROW]; PLACES],
+    patterns: [[u8; ROW]; PLACES],
+    wide: bool,
+    frame: &[u8; ROW],
+) -> bool
+    requires { ⌜ Heads (now heads) ⌝ }
+    ensures { λ r. ⌜ r ≡ passes (filtersIn (now (heads .entry)) masks patterns) wide (now (frame .entry)) ⌝ }
+{
+    if none_of(heads, BLOCK) {
+        return hits(heads, &masks, &patterns, PASS, wide, frame);
+    }
+    if hits(heads, &masks, &patterns, BLOCK, wide, frame) {
+        return false;
+    }
+    hits(heads, &masks, &patterns, PASS, wide, frame)
+}
