@@ -342,9 +342,10 @@ uint32_t trawl_set(uint8_t *memory, size_t memory_length, uint32_t channel, uint
  *   TRAWL_NEGATIVE_D6 to D8   identifier, destination; carries 5 bytes
  *   TRAWL_DATA                asks for an acknowledgement (0 or 1), last (0 or 1), SN; carries 0 to 7 bytes
  *   TRAWL_ACKNOWLEDGE         ready (0 or 1), SN
- *   TRAWL_CONNECTION_SET_UP, TRAWL_CONNECTION_ACKNOWLEDGE   block size, T1, T3
+ *   TRAWL_CONNECTION_SET_UP, TRAWL_CONNECTION_ACKNOWLEDGE   block size, T1, T2, T3, T4
  *   TRAWL_TEST, TRAWL_BREAK, TRAWL_DISCONNECT               none
- * The reader writes zeros for what a kind doesn't have and behind the carried bytes; the writer doesn't look at either. */
+ * The reader writes zeros for what a kind doesn't have and behind the carried bytes; the writer doesn't look at either. T2 and T4 are any
+ * bytes and are carried as they are, nothing looks into them; a connection telegram of your own has 0xFF (TRAWL_UNUSED_TIME) in both. */
 #define TRAWL_SET_UP 0xC0u
 #define TRAWL_POSITIVE 0xD0u
 #define TRAWL_NEGATIVE_D6 0xD6u
@@ -357,6 +358,7 @@ uint32_t trawl_set(uint8_t *memory, size_t memory_length, uint32_t channel, uint
 #define TRAWL_TEST 0xA3u
 #define TRAWL_BREAK 0xA4u
 #define TRAWL_DISCONNECT 0xA8u
+#define TRAWL_UNUSED_TIME 0xFFu
 
 /* The telegram that bytes are, as a record over the first 32 bytes of a buffer. opening is 0 for one on a channel, where the identifier
  * plays no part, and anything else for an opening one. 0x04 for a buffer under 32 bytes, 0x0A for bytes that are no telegram. */

@@ -1,5 +1,6 @@
 /* Telegrams, the core against the twin, both ways: `telegrams [SEED [ROUNDS]]`. Every string of up to two bytes and many longer ones are read,
- * and what is read is written again; many records are written, and what is written is read again. */
+ * and what is read is written again; many records are written, and what is written is read again; connection telegrams with every pair of T2 and
+ * T4 go both ways. */
 #include <stdio.h>
 #include <stdlib.h>
 #include <string.h>
@@ -8,7 +9,7 @@
 #include "../twin/telegrams.h"
 #include "support.h"
 
-static unsigned long reads, taken, writes, written;
+static unsigned long reads, taken, writes, written, pairs;
 
 static void differs(const char *what, const uint8_t *p, size_t n) {
     fprintf(stderr, "differs: telegrams, %s:", what);
@@ -86,7 +87,7 @@ static void some_string(uint8_t b[12], size_t *n, uint32_t opening) {
         if (chance(90)) b[6] = application[below(4)];
     } else if (chance(90)) {
         b[0] = first[below(sizeof first)];
-        if ((b[0] & 0xFE) == 0xA0 && chance(90)) *n = 6, b[1] = (uint8_t)below(17), b[3] = b[5] = 0xFF;
+        if ((b[0] & 0xFE) == 0xA0 && chance(90)) *n = 6, b[1] = (uint8_t)below(17);
         else if (b[0] >= 0x40 && chance(90)) *n = 1;
     }
     if (chance(5)) b[below(7)] = (uint8_t)any();
@@ -123,6 +124,8 @@ static void records(uint32_t rounds) {
         lend(&record, TRAWL_TELEGRAM);
         word(p, kind);
         for (int i = 0; i < 5; i++) word(p + 4 + 4 * i, some_field());
+        if ((kind == 0xA0 || kind == 0xA1) && chance(80))
+            for (int i = 1; i < 5; i++) word(p + 4 + 4 * i, below(256));
         if (kind >= 0xC0) word(p + 4, some_identifier()), p[24] = (uint8_t)(chance(90) ? 5 : below(9));
         else p[24] = (uint8_t)(chance(95) ? below(8) : any());
         if (write_both(p, size, chance(95) ? 8 + below(4) : below(8), &out, &length)) continue;
@@ -130,6 +133,22 @@ static void records(uint32_t rounds) {
         if (memcmp(bytes(&again), p, 4)) differs("written and read as another kind", p, size);
         write_both(bytes(&again), TRAWL_TELEGRAM, 8, &other, &length);
         if (memcmp(bytes(&other), bytes(&out), length)) differs("written, read, written again", p, size);
+    }
+}
+
+/* every pair of T2 and T4 in a set-up and in an acknowledge, the other fields any; out of bytes into the record's five fields, and back */
+static void connections(void) {
+    static lent record, out, again;
+    for (uint32_t v = 0; v < 0x20000; v++) {
+        uint8_t b[6] = {(uint8_t)(0xA0 + (v >> 16)), (uint8_t)(1 + below(15)), (uint8_t)any(), (uint8_t)v, (uint8_t)any(), (uint8_t)(v >> 8)};
+        uint8_t made[TRAWL_TELEGRAM] = {0};
+        uint32_t length;
+        for (int i = 0; i < 6; i++) word(made + 4 * i, b[i]);
+        if (read_both(0, any(), b, 6, TRAWL_TELEGRAM, &record) || memcmp(bytes(&record), made, TRAWL_TELEGRAM)) differs("a connection telegram read", b, 6);
+        for (int i = 24; i < 32; i++) made[i] = (uint8_t)any();
+        if (write_both(made, TRAWL_TELEGRAM, 8, &out, &length) || length != 6 || memcmp(bytes(&out), b, 6)) differs("a connection telegram written", b, 6);
+        if (read_both(0, any(), bytes(&out), 6, TRAWL_TELEGRAM, &again) || !same(&again, &record)) differs("a connection telegram written and read", b, 6);
+        pairs += v < 0x10000;
     }
 }
 
@@ -146,7 +165,8 @@ int main(int argc, char **argv) {
     short_strings();
     long_strings(200000 * rounds);
     records(200000 * rounds);
+    connections();
     times();
-    printf("telegrams agree: %lu reads, %lu of them taken and written again, %lu writes, %lu of them done, 256 time bytes\n", reads, taken, writes, written);
+    printf("telegrams agree: %lu reads, %lu of them taken and written again, %lu writes, %lu of them done, %lu pairs of T2 and T4, 256 time bytes\n", reads, taken, writes, written, pairs);
     return 0;
 }

@@ -48,8 +48,8 @@ static int read_channel(telegram_t *t, const uint8_t *b, size_t n) {
     }
     t->kind = b[0];
     if (b[0] == 0xA0 || b[0] == 0xA1) {
-        if (n != 6 || b[1] < 1 || b[1] > 15 || b[3] != 0xFF || b[5] != 0xFF) return 0;
-        t->field[0] = b[1], t->field[1] = b[2], t->field[2] = b[4];
+        if (n != 6 || b[1] < 1 || b[1] > 15) return 0;
+        for (int i = 0; i < 5; i++) t->field[i] = b[1 + i];
         return 1;
     }
     return n == 1 && (b[0] == 0xA3 || b[0] == 0xA4 || b[0] == 0xA8);
@@ -86,8 +86,9 @@ static size_t write_one(const telegram_t *t, uint8_t b[8]) {
         b[0] = (uint8_t)(0x90 | f[0] << 5 | f[1]);
         return 1;
     case 0xA0: case 0xA1:
-        if (f[0] < 1 || f[0] > 15 || f[1] > 255 || f[2] > 255) return 0;
-        b[0] = (uint8_t)t->kind, b[1] = (uint8_t)f[0], b[2] = (uint8_t)f[1], b[3] = 0xFF, b[4] = (uint8_t)f[2], b[5] = 0xFF;
+        if (f[0] < 1 || f[0] > 15 || f[1] > 255 || f[2] > 255 || f[3] > 255 || f[4] > 255) return 0;
+        b[0] = (uint8_t)t->kind;
+        for (int i = 0; i < 5; i++) b[1 + i] = (uint8_t)f[i];
         return 6;
     case 0xA3: case 0xA4: case 0xA8:
         b[0] = (uint8_t)t->kind;

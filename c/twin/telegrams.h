@@ -1,4 +1,5 @@
-/* TP2.0 telegrams once more, in plain C99: written from the scope and from tables 3 to 5 of SAE J2819 and from nothing else. */
+/* TP2.0 telegrams once more, in plain C99: written from the scope, its requests and tables 3 to 5 of
+ * SAE J2819 and from nothing else. */
 #ifndef TWIN_TELEGRAMS_H
 #define TWIN_TELEGRAMS_H
 

@@ -56,17 +56,20 @@ fn connection(bytes: &[u8]) -> Answer
         return refused();
     }
     let block_size = bytes[1];
-    let unused = (bytes[3] == telegram_fields::UNUSED) & (bytes[5] == telegram_fields::UNUSED);
     let ack = bytes[0] == 0xA1;
     let t1 = bytes[2];
+    let t2 = bytes[3];
     let t3 = bytes[4];
+    let t4 = bytes[5];
     only_if(
-        telegram_fields::block_size(block_size) & unused,
+        telegram_fields::block_size(block_size),
         Telegram::Channel(OnChannel::Connection {
             ack,
             block_size,
             t1,
+            t2,
             t3,
+            t4,
         }),
     )
 }

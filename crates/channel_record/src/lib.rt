@@ -56,14 +56,18 @@ fn connection(bytes: &[u8]) -> Taken
     let kind = word_at(bytes, 0);
     let block_size = word_at(bytes, 4);
     let t1 = word_at(bytes, 8);
-    let t3 = word_at(bytes, 12);
+    let t2 = word_at(bytes, 12);
+    let t3 = word_at(bytes, 16);
+    let t4 = word_at(bytes, 20);
     only_if(
-        (block_size <= 0xFF) & ((t1 <= 0xFF) & (t3 <= 0xFF)),
+        (block_size <= 0xFF) & ((t1 <= 0xFF) & ((t2 <= 0xFF) & ((t3 <= 0xFF) & (t4 <= 0xFF)))),
         Telegram::Channel(OnChannel::Connection {
             ack: kind == 0xA1,
             block_size: low(block_size),
             t1: low(t1),
+            t2: low(t2),
             t3: low(t3),
+            t4: low(t4),
         }),
     )
 }

@@ -43,17 +43,17 @@ fn acknowledge(ready: bool, sn: u8, buf: &mut [u8]) -> Written
 }
 
 // A connection set-up or acknowledge.
-fn connection(ack: bool, block_size: u8, t1: u8, t3: u8, buf: &mut [u8]) -> Written
+fn connection(ack: bool, block_size: u8, t1: u8, t2: u8, t3: u8, t4: u8, buf: &mut [u8]) -> Written
     requires { ⌜ 8 ≤ length (now buf) ⌝ }
-    ensures { λ r. ⌜ wrote r (now (buf .exit)) ≡ writtenIf (fits (connectionTelegram ack «block_size» t1 t3)) (onWire (connectionTelegram ack «block_size» t1 t3)) (now (buf .entry)) ⌝ }
+    ensures { λ r. ⌜ wrote r (now (buf .exit)) ≡ writtenIf (fits (connectionTelegram ack «block_size» t1 t2 t3 t4)) (onWire (connectionTelegram ack «block_size» t1 t2 t3 t4)) (now (buf .entry)) ⌝ }
 {
     let bytes = [
         0xA0 + telegram_fields::bit_value(ack),
         block_size,
         t1,
-        telegram_fields::UNUSED,
+        t2,
         t3,
-        telegram_fields::UNUSED,
+        t4,
     ];
     all(telegram_fields::block_size(block_size), &bytes, buf)
 }
@@ -70,8 +70,10 @@ pub fn channel(t: OnChannel, bytes: &[u8], buf: &mut [u8]) -> Written
             ack,
             block_size,
             t1,
+            t2,
             t3,
-        } => connection(ack, block_size, t1, t3, buf),
+            t4,
+        } => connection(ack, block_size, t1, t2, t3, t4, buf),
         OnChannel::Test => one(0xA3, buf),
         OnChannel::Break => one(0xA4, buf),
         OnChannel::Disconnect => one(0xA8, buf),

@@ -173,18 +173,22 @@ says-back (channel (acknowledge ready sn)) rest fit =
       let-through true (channel (acknowledge ready sn)) refl,
     )
     (allowed (channel (acknowledge ready sn)) fit)
-says-back (channel (connection ack bs t1 t3)) rest fit =
+says-back (channel (connection ack bs t1 t2 t3 t4)) rest fit =
     let p = both {a = within 1 15 bs} fit in
     let q = both {a = leb t1 0xFF} (p .1) in
-    let f = number-is (0xA0 + bitValue ack) bs t1 t3 0 0 0 (padded []) rest in
+    let r = both {a = leb t2 0xFF} (q .1) in
+    let s = both {a = leb t3 0xFF} (r .1) in
+    let f = number-is (0xA0 + bitValue ack) bs t1 t2 t3 t4 0 (padded []) rest in
     let small = bit-small ack in
     rw (
       f 0 (omega arith) (omega arith),
       f 1 (omega arith) (bounded bs 15 (omega arith) (both {a = leb 1 bs} (p .0) .1)),
       f 2 (omega arith) (bounded t1 0xFF (omega arith) (q .0)),
-      f 3 (omega arith) (bounded t3 0xFF (omega arith) (q .1)),
+      f 3 (omega arith) (bounded t2 0xFF (omega arith) (r .0)),
+      f 4 (omega arith) (bounded t3 0xFF (omega arith) (s .0)),
+      f 5 (omega arith) (bounded t4 0xFF (omega arith) (s .1)),
     )
-    (ap kept (either-kind ack _ _ _ _ (λ a. channel (connection a bs t1 t3))) ∙ allowed (channel (connection ack bs t1 t3)) fit)
+    (ap kept (either-kind ack _ _ _ _ (λ a. channel (connection a bs t1 t2 t3 t4))) ∙ allowed (channel (connection ack bs t1 t2 t3 t4)) fit)
 says-back (channel test) rest fit = rw (number-is 0xA3 0 0 0 0 0 0 (padded []) rest 0 (omega arith) (omega arith)) (allowed (channel test) refl)
 says-back (channel breakOff) rest fit = rw (number-is 0xA4 0 0 0 0 0 0 (padded []) rest 0 (omega arith) (omega arith)) (allowed (channel breakOff) refl)
 says-back (channel disconnection) rest fit = rw (number-is 0xA8 0 0 0 0 0 0 (padded []) rest 0 (omega arith) (omega arith)) (allowed (channel disconnection) refl)
@@ -204,7 +208,7 @@ five (opening id (positive d tx rx app)) = refl
 five (opening id (negative d kind l)) = refl
 five (channel (dataTelegram asks last sn l)) = refl
 five (channel (acknowledge ready sn)) = refl
-five (channel (connection ack bs t1 t3)) = refl
+five (channel (connection ack bs t1 t2 t3 t4)) = refl
 five (channel test) = refl
 five (channel breakOff) = refl
 five (channel disconnection) = refl

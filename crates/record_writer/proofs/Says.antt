@@ -56,7 +56,7 @@ fits-short (channel (dataTelegram asks last sn bytes)) h =
     let seven = leb-true (length bytes) 7 (both {a = leb (length bytes) 7} (both {a = leb sn 15} h .1) .0) in
     omega arith
 fits-short (channel (acknowledge ready sn)) h = omega arith
-fits-short (channel (connection ack bs t1 t3)) h = omega arith
+fits-short (channel (connection ack bs t1 t2 t3 t4)) h = omega arith
 fits-short (channel test) h = omega arith
 fits-short (channel breakOff) h = omega arith
 fits-short (channel disconnection) h = omega arith

@@ -4,9 +4,6 @@ ghost use Prim.Native.Nat.{_≤_};
 ghost use Rattle.telegram.specs.Bits.{within, bitValue};
 ghost use Rattle.telegram.specs.Telegram.{isOpeningId, isDestination, isId, isApplication, isNegative};
 
-// What stands in T2 and T4.
-pub const UNUSED: u8 = 0xFF;
-
 // The identifier may carry an opening telegram.
 pub fn opening_id(identifier: u32) -> bool
     ensures { λ r. ⌜ r ≡ isOpeningId identifier ⌝ }

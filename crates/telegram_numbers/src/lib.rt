@@ -95,12 +95,16 @@ fn channel(t: OnChannel) -> Numbers
             ack,
             block_size,
             t1,
+            t2,
             t3,
-        } => three(
+            t4,
+        } => five(
             0xA0 + telegram_fields::bit_value(ack),
             block_size as u32,
             t1 as u32,
+            t2 as u32,
             t3 as u32,
+            t4 as u32,
         ),
         OnChannel::Test => three(0xA3, 0, 0, 0),
         OnChannel::Break => three(0xA4, 0, 0, 0),

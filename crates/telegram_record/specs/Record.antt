@@ -53,7 +53,7 @@ unfoldable pub acknowledgeIn : List ℕ → Option AnyTelegram
 acknowledgeIn r = onlyIf (leb (wordAt 4 r) 1) (channel (acknowledge (eqb (wordAt 4 r) 1) (wordAt 8 r)))
 
 unfoldable pub connectionIn : List ℕ → AnyTelegram
-connectionIn r = channel (connection (eqb (wordAt 0 r) 0xA1) (wordAt 4 r) (wordAt 8 r) (wordAt 12 r))
+connectionIn r = channel (connection (eqb (wordAt 0 r) 0xA1) (wordAt 4 r) (wordAt 8 r) (wordAt 12 r) (wordAt 16 r) (wordAt 20 r))
 
 unfoldable pub aloneIn : (kind : ℕ) → Option AnyTelegram
 aloneIn kind =

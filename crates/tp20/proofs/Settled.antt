@@ -33,7 +33,7 @@ openingCase (T.negative d kind rest) = Negative d kind
 channelCase : T.Telegram → OnChannel
 channelCase (T.dataTelegram asks last sn bytes) = Data asks last sn
 channelCase (T.acknowledge ready sn) = Acknowledge ready sn
-channelCase (T.connection ack bs t1 t3) = Connection ack bs t1 t3
+channelCase (T.connection ack bs t1 t2 t3 t4) = Connection ack bs t1 t2 t3 t4
 channelCase T.test = Test
 channelCase T.breakOff = Break
 channelCase T.disconnection = Disconnect
@@ -51,7 +51,7 @@ takenCase-said (Yes (opens id (Positive d tx rx app))) bytes = refl
 takenCase-said (Yes (opens id (Negative d kind))) bytes = refl
 takenCase-said (Yes (travels (Data asks last sn))) bytes = refl
 takenCase-said (Yes (travels (Acknowledge ready sn))) bytes = refl
-takenCase-said (Yes (travels (Connection ack bs t1 t3))) bytes = refl
+takenCase-said (Yes (travels (Connection ack bs t1 t2 t3 t4))) bytes = refl
 takenCase-said (Yes (travels Test)) bytes = refl
 takenCase-said (Yes (travels Break)) bytes = refl
 takenCase-said (Yes (travels Disconnect)) bytes = refl

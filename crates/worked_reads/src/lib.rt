@@ -9,7 +9,7 @@ use tp20::Taken;
 use tp20::Telegram;
 
 // Telegrams on a channel: how many bytes, and the bytes.
-const ON_CHANNEL: [[u8; 10]; 26] = [
+const ON_CHANNEL: [[u8; 10]; 28] = [
     [1, 0x10, 0, 0, 0, 0, 0, 0, 0, 0],
     [8, 0x00, 0x01, 0x02, 0x03, 0x04, 0x05, 0x06, 0x07, 0],
     [2, 0x2F, 0xFF, 0, 0, 0, 0, 0, 0, 0],
@@ -34,6 +34,8 @@ const ON_CHANNEL: [[u8; 10]; 26] = [
     [6, 0xA0, 0x10, 0x8A, 0xFF, 0x32, 0xFF, 0, 0, 0],
     [6, 0xA0, 0x0F, 0x8A, 0xFE, 0x32, 0xFF, 0, 0, 0],
     [6, 0xA0, 0x0F, 0x8A, 0xFF, 0x32, 0xFE, 0, 0, 0],
+    [6, 0xA0, 0x0F, 0x8A, 0x01, 0x32, 0x02, 0, 0, 0],
+    [6, 0xA1, 0x01, 0x00, 0x00, 0x00, 0x00, 0, 0, 0],
     [5, 0xA0, 0x0F, 0x8A, 0xFF, 0x32, 0, 0, 0, 0],
     [7, 0xA0, 0x0F, 0x8A, 0xFF, 0x32, 0xFF, 0x00, 0, 0],
 ];
@@ -131,17 +133,17 @@ fn opening(row: [u8; 11]) {
 
 // Runs the i-th case of both tables.
 fn case(i: usize) {
-    if i < 26 {
+    if i < 28 {
         on_channel(ON_CHANNEL[i]);
-    } else if i < 50 {
-        opening(OPENINGS[i - 26]);
+    } else if i < 52 {
+        opening(OPENINGS[i - 28]);
     }
 }
 
 // Runs both tables.
 pub fn reads() {
     let mut i = 0;
-    while i < 50 {
+    while i < 52 {
         case(i);
         i += 1;
     }

@@ -47,15 +47,27 @@ fn acknowledge(label: &[u8], ready: bool, sn: u8) {
     );
 }
 
-// A connection telegram with T1 100 ms and T3 5 ms.
+// A connection telegram of ours, with T1 100 ms and T3 5 ms.
 fn connection(label: &[u8], ack: bool, block_size: u8) {
     write(
         label,
+        Telegram::Channel(own_telegrams::connection(ack, block_size, 0x8A, 0x32)),
+        b"",
+        8,
+    );
+}
+
+// A module's connection acknowledge, with T1 100 ms, T3 5 ms and its own T2 and T4.
+fn from_module(label: &[u8], t2: u8, t4: u8) {
+    write(
+        label,
         Telegram::Channel(OnChannel::Connection {
-            ack,
-            block_size,
+            ack: true,
+            block_size: 15,
             t1: 0x8A,
+            t2,
             t3: 0x32,
+            t4,
         }),
         b"",
         8,
@@ -97,4 +109,7 @@ pub fn writes_on_channel() {
     connection(b"connection acknowledge", true, 1);
     connection(b"connection set-up, block size 0,", false, 0);
     connection(b"connection set-up, block size 16,", false, 16);
+    connection(b"connection set-up", false, 15);
+    from_module(b"connection acknowledge, T2 01, T4 02,", 0x01, 0x02);
+    from_module(b"connection acknowledge, T2 00, T4 fe,", 0x00, 0xFE);
 }

@@ -1,7 +1,7 @@
 -- `channel_reader::connection` meets its contract. Assumes nothing.
 use mathlib.Core.Path.{ap, _∙_}
 use borrow.Author.Needs.{needs}
-use Rattle.telegram.specs.Telegram.{channel, unusedTime}
+use Rattle.telegram.specs.Telegram.{channel}
 use Rattle.telegram.proofs.Tests.{wrapped}
 use Rattle.telegram.proofs.Channel.{connection-byte, connection-long, connection-other}
 use Rattle.telegram_types.specs.Face.{answering, said, channelSaid}
@@ -15,7 +15,7 @@ returns c =
     c .refused .ensures ∙ answers channel (connection-byte _ (s .pre .0) (s .pre .1) ∙ connection-other _ _ (c .before .if1 .taken))
 
 returns-2 : tie.Need-returns-2
-unfolding said channelSaid unusedTime
+unfolding said channelSaid
 returns-2 c =
     let s = c .before .before .before .before .before .before .before .before .before .before in
     c .only-if .ensures

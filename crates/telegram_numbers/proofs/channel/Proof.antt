@@ -16,19 +16,19 @@ returns-2 c = λ bytes. c .three2 .ensures ∙ rw (c .before .bit3 .ensures) (sy
 
 returns-3 : tie.Need-returns-3
 unfolding numbersOf channelSaid
-returns-3 c = λ bytes. c .three3 .ensures ∙ rw (c .before .bit-value .ensures .0) (sym (ap (λ t. numbersOf (channel (channelSaid t bytes))) (c .before .before .before .t3 .given .1)))
+returns-3 c = λ bytes. c .five .ensures ∙ rw (c .before .bit-value .ensures .0) (sym (ap (λ t. numbersOf (channel (channelSaid t bytes))) (c .before .before .before .t3 .given .1)))
 
 returns-4 : tie.Need-returns-4
 unfolding numbersOf channelSaid
-returns-4 c = λ bytes. c .three4 .ensures ∙ sym (ap (λ t. numbersOf (channel (channelSaid t bytes))) (c .before .enum-told .given .1))
+returns-4 c = λ bytes. c .three3 .ensures ∙ sym (ap (λ t. numbersOf (channel (channelSaid t bytes))) (c .before .enum-told .given .1))
 
 returns-5 : tie.Need-returns-5
 unfolding numbersOf channelSaid
-returns-5 c = λ bytes. c .three5 .ensures ∙ sym (ap (λ t. numbersOf (channel (channelSaid t bytes))) (c .before .enum-told2 .given .1))
+returns-5 c = λ bytes. c .three4 .ensures ∙ sym (ap (λ t. numbersOf (channel (channelSaid t bytes))) (c .before .enum-told2 .given .1))
 
 returns-6 : tie.Need-returns-6
 unfolding numbersOf channelSaid
-returns-6 c = λ bytes. c .three6 .ensures ∙ sym (ap (λ t. numbersOf (channel (channelSaid t bytes))) (c .before .enum-told3 .given .1))
+returns-6 c = λ bytes. c .three5 .ensures ∙ sym (ap (λ t. numbersOf (channel (channelSaid t bytes))) (c .before .enum-told3 .given .1))
 
 pub channel-spec : {M : Type 1} → statement M
 channel-spec =
@@ -45,6 +45,8 @@ channel-spec =
     (λ c κs. search needs)
     (λ c. search needs)
     (λ c κs. search needs)
+    (λ c. search needs)
+    (λ c. search needs)
     (λ c. search needs)
     (λ c. search needs)
     (λ c. search needs)

@@ -9,7 +9,7 @@ abbrev Inv-loop : tie.InvT-loop
 Inv-loop i₀ i = Unit {0}
 
 abbrev μ-loop : tie.MeasureT-loop
-μ-loop i₀ i = 50 - i
+μ-loop i₀ i = 52 - i
 
 pub reads-spec : {M : Type 1} → statement M
 reads-spec =
