@@ -5,13 +5,12 @@ use mathlib.Core.List.{List}
 use mathlib.Core.Path.{_≡_, refl, sym, ap, _∙_}
 use native.Mathlib.Omega.{arith}
 use borrow.Author.Tests.{leb-true, leb-false, le-leb, lt-leb, ne-eqb, eq-eqb}
-use lib.Dec.{eqb, leb, ltb}
+use lib.Dec.{leb, ltb}
 use lib.ListN.{length, drop, getD, List·getD-eq-default}
 use Rattle.number.specs.declared.Number.{Number}
 use Rattle.number.specs.declared.Number.the-variants.{Value, Bad}
 use Rattle.number.specs.Number.{front}
 use Rattle.number.specs.Place.{numberAt}
-use Rattle.codec.specs.Plain.{if_then_else_}
 use Rattle.fault.specs.declared.Spot.{Spot}
 use Rattle.fault.specs.Fault.{spot, andThen, whyBad, numberThen, bytesFrom, bytesAfter, piecesFrom, noMore, looks, argumentsAfter, kindThen}
 use Rattle.events.proofs.Reading.{NoneUpTo}

@@ -14,7 +14,6 @@ use Rattle.events.specs.Events.{readEvent}
 use Rattle.events.specs.Found.{eventOf, foundOf, ReadsEvent}
 use Rattle.events.proofs.Ending.{least, event-ends}
 use Rattle.fault.specs.declared.Spot.{Spot}
-use Rattle.fault.specs.declared.Fault.{Fault}
 use Rattle.fault.specs.Fault.{fault, nothing, met, eventFault, faultFrom, faultIn}
 
 -- n events were read, up to `at`

@@ -1,7 +1,6 @@
 -- `fault::event` meets its contract. Assumes nothing.
 use mathlib.Core.Path.{_∙_}
 use borrow.Author.Needs.{needs}
-use denote.Ref.{now}
 use Rattle.fault.specs.Fault.{kindThen, eventFault}
 use Rattle.fault.proofs.Parts.{number-good, number-bad, no-event, an-event}
 use Rattle.fault.proofs.event.Statement.{statement}
