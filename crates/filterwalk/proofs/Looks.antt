@@ -1,6 +1,6 @@
 -- What the walk's two loops carry. `Seen f`: the places below f are looked at, and no filter of the kind among them matches. Assumes nothing.
 use mathlib.Core.Path.{_≡_, refl, sym, ap, ap₂, subst, _∙_}
-use Prim.Native.Nat.{ℕ, zero, suc, _+_, _≤_, _<_}
+use Prim.Native.Nat.{ℕ, zero, suc, _+_, _-_, _≤_, _<_}
 use native.Mathlib.Nat.{eq-or-lt-of-le, le-of-suc-le-suc, not-suc-le-zero}
 use native.Mathlib.Numerals.{add-one}
 use native.Mathlib.Omega.{arith}
@@ -17,7 +17,7 @@ use Rattle.machine.specs.Limits.{mostPlaces}
 use Rattle.machine.specs.Filter.{Slots, Filter, anySlot, matches, hits, passes}
 use Rattle.machine.proofs.Slots.{any-none, any-some, any-end}
 use Rattle.layout.specs.Sizes.{widthsIn, sizesIn}
-use Rattle.filterwalk.specs.Columns.{Heads, noneOf, filterAt, filtersIn}
+use Rattle.filterwalk.specs.Columns.{Heads, EmptyFrom, noneOf, filterAt, filtersIn}
 use Rattle.filterwalk.proofs.Listed.{listed-long, listed-at}
 
 -- ---- a test of every number below n
@@ -146,6 +146,19 @@ module _ (heads : List ℕ) (masks patterns : List (List ℕ)) (kind : ℕ) (wid
       all-bytes b w e a =
           seen-found (eqb kind 2) (filtersIn heads masks patterns) ten-filters wide frame f s h Here is-here
           (ap₂ (λ (x y : Bool). x && y) (ap (λ (n : ℕ). Bool·beq (eqb n 2) (eqb kind 2)) k ∙ same-kind (eqb kind 2)) (rw (w, ← e, a)))
+
+-- ---- the places behind the last filter
+
+module _ (heads : List ℕ) (masks patterns : List (List ℕ)) (kind : ℕ) (wide : Bool) (frame : List ℕ) (lb : 1 ≤ kind) (hb : kind ≤ 2) where
+  on : (k n : ℕ) → n + k ≡ mostPlaces → Looked heads masks patterns kind wide frame n → EmptyFrom heads n → false ≡ hits (eqb kind 2) (filtersIn heads masks patterns) wide frame
+  on zero n e s z = looked-all heads masks patterns kind wide frame n s (omega arith)
+  on (suc k) n e s z =
+      let h : n < mostPlaces = omega arith in
+      let z0 : getD heads n 0 ≡ 0 = z n (omega arith) h in
+      on k (n + 1) (omega arith) (other-type heads masks patterns kind wide frame n h s (omega arith) lb hb (λ e. let x : kind ≡ 0 = sym e ∙ z0 in omega arith)) (λ f l. z f (omega arith))
+
+  pub looked-end : (n end : ℕ) → Looked heads masks patterns kind wide frame n → end ≤ n → EmptyFrom heads end → false ≡ hits (eqb kind 2) (filtersIn heads masks patterns) wide frame
+  looked-end n end s h z = let low : n ≤ mostPlaces = s .low in on (mostPlaces - n) n (omega arith) s (λ f l. z f (omega arith))
 
 -- ---- no filter of a type
 

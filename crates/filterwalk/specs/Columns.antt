@@ -23,6 +23,10 @@ pub record Heads (heads : List ℕ) : Type 0 where
   pub kinds : (f : ℕ) → f < mostPlaces → getD heads f 0 ≤ 2
   pub sizes : (f : ℕ) → f < mostPlaces → getD heads (sizesIn + f) 0 ≤ mostData
 
+-- the places from a place on are empty
+abbrev pub EmptyFrom : List ℕ → ℕ → Type 0
+EmptyFrom heads end = (f : ℕ) → end ≤ f → f < mostPlaces → getD heads f 0 ≡ 0
+
 -- none of the ten places has a filter of this type
 unfoldable pub noneOf : List ℕ → ℕ → Bool
 noneOf heads kind = allBelow mostPlaces (λ f. not (eqb (getD heads f 0) kind))

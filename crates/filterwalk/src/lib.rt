@@ -3,9 +3,10 @@ ghost use mathlib.Core.Path.{_≡_};
 ghost use Prim.Native.Nat.{_≤_};
 ghost use lib.Dec.{eqb};
 ghost use lib.ListN.{length};
+ghost use Rattle.machine.specs.Limits.{mostPlaces};
 ghost use Rattle.machine.specs.Filter.{hits as someHits, passes};
 ghost use Rattle.layout.specs.Sizes.{masksIn};
-ghost use Rattle.filterwalk.specs.Columns.{Heads, noneOf, filtersIn};
+ghost use Rattle.filterwalk.specs.Columns.{Heads, EmptyFrom, noneOf, filtersIn};
 use places::PLACES;
 use places::ROW;
 use places::SIZES_IN;
@@ -28,8 +29,24 @@ pub fn none_of(heads: &[u8], kind: u8) -> bool
     none
 }
 
+// The place behind the last filter: those from there on are empty.
+fn end_of(heads: &[u8]) -> usize
+    requires { ⌜ length (now heads) ≡ masksIn ⌝ }
+    ensures { λ r. ⌜ (r ≤ mostPlaces) × EmptyFrom (now (heads .entry)) r ⌝ }
+{
+    let mut end = PLACES;
+    while end > 0 {
+        let last = end - 1;
+        if heads[last] != 0 {
+            return end;
+        }
+        end = last;
+    }
+    end
+}
+
 // Does a filter of this type and of the frame's width match? Of the heads the first ten are the types, then ten width marks and ten sizes. The
-// comparison of one filter ends at the first byte that differs, the walk at the first filter that matches.
+// comparison of one filter ends at the first byte that differs, the walk at the first filter that matches or behind the last one.
 fn hits(
     heads: &[u8],
     masks: &[[u8; ROW]; PLACES],
@@ -37,12 +54,13 @@ fn hits(
     kind: u8,
     wide: bool,
     frame: &[u8; ROW],
+    end: usize,
 ) -> bool
-    requires { ⌜ Heads (now heads) × (1 ≤ kind) × (kind ≤ 2) ⌝ }
+    requires { ⌜ Heads (now heads) × (1 ≤ kind) × (kind ≤ 2) × (end ≤ mostPlaces) × EmptyFrom (now heads) end ⌝ }
     ensures { λ r. ⌜ r ≡ someHits (eqb kind 2) (filtersIn (now (heads .entry)) (now (masks .entry)) (now (patterns .entry))) wide (now (frame .entry)) ⌝ }
 {
     let mut next = 0;
-    'filters: while next < PLACES {
+    'filters: while next < end {
         let f = next;
         next += 1;
         if heads[f] != kind {
@@ -73,11 +91,12 @@ pub fn verdict(
     requires { ⌜ Heads (now heads) ⌝ }
     ensures { λ r. ⌜ r ≡ passes (filtersIn (now (heads .entry)) masks patterns) wide (now (frame .entry)) ⌝ }
 {
+    let end = end_of(heads);
     if none_of(heads, BLOCK) {
-        return hits(heads, &masks, &patterns, PASS, wide, frame);
+        return hits(heads, &masks, &patterns, PASS, wide, frame, end);
     }
-    if hits(heads, &masks, &patterns, BLOCK, wide, frame) {
+    if hits(heads, &masks, &patterns, BLOCK, wide, frame, end) {
         return false;
     }
-    hits(heads, &masks, &patterns, PASS, wide, frame)
+    hits(heads, &masks, &patterns, PASS, wide, frame, end)
 }

@@ -12,21 +12,21 @@ use borrow.Author.Tests.{eq-eqb, ne-eqb, not-true, not-false}
 use Rattle.codec.specs.Plain.{allBelow}
 use Rattle.machine.specs.Limits.{mostPlaces, mostData}
 use Rattle.layout.specs.Sizes.{widthsIn, sizesIn}
-use Rattle.filterwalk.proofs.Looks.{all-more, fitsAt, Looked, looked-none, looked-all, other-type, other-width, other-byte, all-bytes}
+use Rattle.filterwalk.proofs.Looks.{all-more, fitsAt, Looked, looked-none, looked-end, other-type, other-width, other-byte, all-bytes}
 use Rattle.filterwalk.proofs.hits.Statement.{statement}
 use Rattle.filterwalk.proofs.hits.Tie as tie
 
 abbrev Inv-loop : tie.InvT-loop
-Inv-loop heads masks patterns kind wide frame next f size b₀ b = (b ≤ size) × (size ≤ mostData) × (allBelow b (fitsAt frame (getD masks f []) (getD patterns f [])) ≡ true)
+Inv-loop heads masks patterns kind wide frame end next f size b₀ b = (b ≤ size) × (size ≤ mostData) × (allBelow b (fitsAt frame (getD masks f []) (getD patterns f [])) ≡ true)
 
 abbrev μ-loop : tie.MeasureT-loop
-μ-loop heads masks patterns kind wide frame next f size b₀ b = size - b
+μ-loop heads masks patterns kind wide frame end next f size b₀ b = size - b
 
 abbrev Inv-filters : tie.InvT-filters
-Inv-filters heads masks patterns kind wide frame next₀ next = Looked heads masks patterns kind wide frame next
+Inv-filters heads masks patterns kind wide frame end next₀ next = Looked heads masks patterns kind wide frame next
 
 abbrev μ-filters : tie.MeasureT-filters
-μ-filters heads masks patterns kind wide frame next₀ next = mostPlaces - next
+μ-filters heads masks patterns kind wide frame end next₀ next = end - next
 
 filters-holds : tie.Need-filters-holds Inv-loop μ-loop Inv-filters μ-filters
 filters-holds c = looked-none _ _ _ _ _ _
@@ -68,7 +68,9 @@ returns c =
     all-bytes _ _ _ _ _ _ (l .next) (search needs) (l .inv) (c .before .before .before .before .before .before .before .before .before .pre .1) (c .before .before .before .before .before .if1 .left) (i .b) (not-false _ (c .before .before .before .if2 .left)) (search needs) (i .inv .2)
 
 returns-2 : tie.Need-returns-2 Inv-loop μ-loop Inv-filters μ-filters
-returns-2 c = looked-all _ _ _ _ _ _ _ (c .before .filters .inv) (search needs)
+returns-2 c =
+    let start = c .before .before in
+    looked-end _ _ _ _ _ _ (start .pre .1) (start .pre .2) _ (start .args .end) (c .before .filters .inv) (search needs) (start .pre .4)
 
 pub hits-spec : {M : Type 1} → statement M
 hits-spec =
