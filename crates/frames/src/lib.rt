@@ -51,7 +51,8 @@ pub fn offer(r: &mut [u8], clock: u32, wide: bool, id: u32, bytes: &[u8])
     if !can::takes_width(integers::word_at(r, FLAGS), wide) {
         return;
     }
-    if !verdict::lets_in(&r[FILTERS..PERIODICS], wide, twelve_bytes(id, bytes)) {
+    let len = NUMBER + bytes.len();
+    if !verdict::lets_in(&r[FILTERS..PERIODICS], wide, twelve_bytes(id, bytes), len) {
         return;
     }
     receiving::receive(r, clock, wide, id, bytes);
