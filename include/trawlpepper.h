@@ -107,7 +107,8 @@ uint32_t trawl_frame(uint8_t *memory, size_t memory_length, uint32_t line, uint3
 
 uint32_t trawl_disconnect(uint8_t *memory, size_t memory_length, uint32_t channel);
 
-/* mask and pattern are records of 36 bytes. Gives the filter's number, 1 to 10. */
+/* mask and pattern are records of 36 bytes. Gives the filter's number, 1 to 10. A filter matches no frame that has fewer bytes (four of the
+ * identifier, then its data) than the filter's size. */
 uint32_t trawl_start_filter(uint8_t *memory, size_t memory_length, uint32_t channel, uint32_t type, const uint8_t *mask,
                             size_t mask_length, const uint8_t *pattern, size_t pattern_length, uint32_t *number);
 uint32_t trawl_stop_filter(uint8_t *memory, size_t memory_length, uint32_t channel, uint32_t number);
