@@ -27,14 +27,14 @@ fn rows(mem: &[u8], at: usize) -> [[u8; ROW]; PLACES]
 }
 
 // Do the filters let a frame in? The frame is its identifier's four bytes and its data, the first `len` bytes of a row.
-pub fn lets_in(part: &[u8], wide: bool, frame: [u8; ROW], len: usize) -> bool
-    requires { ⌜ FilterPart (now part) × (len ≤ length frame) ⌝ }
-    ensures { λ r. ⌜ ((flags : ℕ) → r ≡ passes (filters flags .get (now (part .entry))) wide (take len frame)) ⌝ }
+pub fn lets_in(part: &[u8], wide: bool, frame: &[u8; ROW], len: usize) -> bool
+    requires { ⌜ FilterPart (now part) × (len ≤ length (now frame)) ⌝ }
+    ensures { λ r. ⌜ ((flags : ℕ) → r ≡ passes (filters flags .get (now (part .entry))) wide (take len (now (frame .entry)))) ⌝ }
 {
     if filterwalk::none_of(&part[0..MASKS_IN], filterwalk::PASS) {
         return false;
     }
     let masks = rows(part, MASKS_IN);
     let patterns = rows(part, PATTERNS_IN);
-    filterwalk::verdict(&part[0..MASKS_IN], masks, patterns, wide, &frame, len)
+    filterwalk::verdict(&part[0..MASKS_IN], masks, patterns, wide, frame, len)
 }

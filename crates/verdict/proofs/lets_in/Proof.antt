@@ -13,13 +13,13 @@ returns c =
 
 verdict-requires : tie.Need-verdict-requires
 verdict-requires c κs =
-    let start = c .before .before .before .before .before .before .before .before in
+    let start = c .before .before .before .before .before .before .before in
     (heads-held (now (start .args .part)) (start .pre .0), start .pre .1)
 
 returns-2 : tie.Need-returns-2
 returns-2 c =
-    let start = c .before .before .before .before .before .before .before .before .before in
-    found (now (start .args .part)) (start .pre .0) _ _ (start .args .wide) _ (c .verdict .result) (c .before .before .before .before .rows .ensures) (c .before .before .before .rows2 .ensures) (c .verdict .ensures)
+    let start = c .before .before .before .before .before .before .before .before in
+    found (now (start .args .part)) (start .pre .0) _ _ (start .args .wide) _ (c .verdict .result) (c .before .before .before .rows .ensures) (c .before .before .rows2 .ensures) (c .verdict .ensures)
 
 pub lets-in-spec : {M : Type 1} → statement M
 lets-in-spec =
