@@ -200,7 +200,7 @@ static inline uint32_t trawl_clear_kind(uint32_t ioctl) {
  *   does, in whatever order they were started. Block filters alone let nothing in either. Echoes go past all filters.
  *   - A filter matches a frame of its own width if, for each byte below its size, frame byte AND mask byte equals the pattern byte. THE PATTERN
  *   ISN'T MASKED: a bit (below the size) that is 1 in the pattern and 0 in the mask makes a filter that matches nothing, and no code tells.
- *   - The bytes are the four of the identifier, highest first, then the data. A byte that the frame doesn't have counts as zero.
+ *   - The bytes are the four of the identifier, highest first, then the data. A filter matches no frame that has fewer bytes than its size.
  *   - The TxFlags of mask and pattern decide the width: with 0x100 the filter is for wide frames alone, without for narrow ones alone. On a
  *   connection that takes both widths it takes two filters to let all in.
  *   - A channel has at most ten, pass and block together. Starting and stopping filters leaves what is queued. */

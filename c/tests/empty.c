@@ -59,10 +59,14 @@ int main(void) {
     STAYS(0x13, 77, trawl_frame(box, sizeof box, 4, 0, 0, NULL, 0), v);
     STAYS(0x00, 77, trawl_frame(box, sizeof box, 0, 0, 0x7E8, NULL, 0), v); /* no filter lets nothing in */
 
-    /* a frame without data, let in by a filter with a longer size: the bytes that it doesn't have count as zero */
+    /* a frame without data: a filter of twelve bytes doesn't match it, one of four does */
     trawl_record_make(mask, 0, 0x7FF, (const uint8_t *)"\xFF\xFF\xFF\xFF\xFF\xFF\xFF\xFF", 8);
     trawl_record_make(record, 0, 0x7E8, (const uint8_t *)"\0\0\0\0\0\0\0", 8);
-    must(trawl_start_filter(box, sizeof box, 1, 1, mask, sizeof mask, record, sizeof record, &v) == 0 && v == 1, "filter");
+    must(trawl_start_filter(box, sizeof box, 1, 1, mask, sizeof mask, record, sizeof record, &v) == 0 && v == 1, "filter of twelve bytes");
+    STAYS(0x00, 77, trawl_frame(box, sizeof box, 0, 0, 0x7E8, NULL, 0), v);
+    trawl_record_make(mask, 0, 0x7FF, NULL, 0);
+    trawl_record_make(record, 0, 0x7E8, NULL, 0);
+    must(trawl_start_filter(box, sizeof box, 1, 1, mask, sizeof mask, record, sizeof record, &v) == 0 && v == 2, "filter of four bytes");
     must(trawl_frame(box, sizeof box, 0, 0, 0x7E8, NULL, 0) == 0, "frame without data");
     STAYS(0x00, 0, trawl_read(box, sizeof box, 1, 0, NULL, 0, &v), v);
     STAYS(0x04, 0, trawl_read(box, sizeof box, 1, 1, NULL, 0, &v), v);

@@ -237,22 +237,23 @@ uint32_t twin_advance(uint8_t *m, size_t len, uint32_t us) {
 
 /* ---- filters and frames ---- */
 
-static int matches(const channel_t *c, int i, int wide, const uint8_t frame[ROW]) {
-    if (c->wide[i] != wide) return 0;
+/* the frame is the first n bytes of a row; a longer filter doesn't match it */
+static int matches(const channel_t *c, int i, int wide, const uint8_t frame[ROW], size_t n) {
+    if (c->wide[i] != wide || c->size[i] > n) return 0;
     for (unsigned k = 0; k < c->size[i]; k++)
         if ((frame[k] & c->mask[i][k]) != c->pattern[i][k]) return 0;
     return 1;
 }
 
 /* does a filter of this type match? */
-static int hits(const channel_t *c, int type, int wide, const uint8_t frame[ROW]) {
+static int hits(const channel_t *c, int type, int wide, const uint8_t frame[ROW], size_t n) {
     for (int i = 0; i < FILTERS; i++)
-        if (c->type[i] == type && matches(c, i, wide, frame)) return 1;
+        if (c->type[i] == type && matches(c, i, wide, frame, n)) return 1;
     return 0;
 }
 
-static int let_in(const channel_t *c, int wide, const uint8_t frame[ROW]) {
-    return !hits(c, 2, wide, frame) && hits(c, 1, wide, frame);
+static int let_in(const channel_t *c, int wide, const uint8_t frame[ROW], size_t n) {
+    return !hits(c, 2, wide, frame, n) && hits(c, 1, wide, frame, n);
 }
 
 uint32_t twin_frame(uint8_t *m, size_t len, uint32_t line, uint32_t wide, uint32_t id, const uint8_t *data, size_t n) {
@@ -266,7 +267,7 @@ uint32_t twin_frame(uint8_t *m, size_t len, uint32_t line, uint32_t wide, uint32
     if (!c->open || !takes(get32(c->flags), (int)wide)) return 0;
     frame[0] = (uint8_t)(id >> 24), frame[1] = (uint8_t)(id >> 16), frame[2] = (uint8_t)(id >> 8), frame[3] = (uint8_t)id;
     if (n) memcpy(frame + 4, data, n);
-    if (let_in(c, (int)wide, frame)) arrive(c, wide ? 256 : 0, get32(d->clock), frame, 4 + (uint32_t)n);
+    if (let_in(c, (int)wide, frame, 4 + n)) arrive(c, wide ? 256 : 0, get32(d->clock), frame, 4 + (uint32_t)n);
     return 0;
 }
 

@@ -93,7 +93,7 @@ fn main() {
         empty bad-cut-record bad-event-17 bad-long-form bad-number-2-32 n-64 n-65-read \
         connect-four connect-order configuration channel-0x02 \
         filter-numbers filter-order filter-widths \
-        filter-block filter-pattern-unmasked filter-short-frame frame-order width-800 \
+        filter-block filter-pattern-unmasked filter-short-frame p1-short-frame p1-block frame-order width-800 \
         read-codes lost-read-of-0 loopback four-channels \
         write-counts write-bad-without-room \
         periodic-from-start take-order clear-kinds \

@@ -8,10 +8,11 @@ use mathlib.Core.Logic.{⊎-elim}
 use mathlib.Core.Bool.{Bool, true, false, not, _&&_, _||_, Bool·beq, and-true, and-false}
 use mathlib.Core.Option.{none, some}
 use mathlib.Core.List.{List, []}
-use lib.ListN.{length, getD, drop}
-use lib.Dec.{eqb}
+use lib.ListN.{length, getD, take, drop}
+use lib.Seq.{getD-take, length-take-le}
+use lib.Dec.{eqb, leb}
 use lib.Bits.{bitAnd}
-use borrow.Author.Tests.{eqb-true, eqb-false, eq-eqb, ne-eqb, not-true}
+use borrow.Author.Tests.{eqb-true, eqb-false, eq-eqb, ne-eqb, le-leb, lt-leb, not-true}
 use Rattle.codec.specs.Plain.{allBelow}
 use Rattle.machine.specs.Limits.{mostPlaces}
 use Rattle.machine.specs.Filter.{Slots, Filter, anySlot, matches, hits, passes}
@@ -68,6 +69,18 @@ module _ (block : Bool) (fs : Slots Filter) (ten : length fs ≡ mostPlaces) (wi
 -- byte k of a frame, masked, is byte k of the pattern
 abbrev pub fitsAt : List ℕ → List ℕ → List ℕ → ℕ → Bool
 fitsAt bytes mask pattern k = eqb (bitAnd (getD bytes k 0) (getD mask k 0)) (getD pattern k 0)
+
+-- a byte of the first bytes of a row is that of the row
+pub fits-first : (len : ℕ) (row mask pattern : List ℕ) (b : ℕ) → b < len → fitsAt (take len row) mask pattern b ≡ fitsAt row mask pattern b
+fits-first len row mask pattern b h = ap (λ (x : ℕ). eqb (bitAnd x (getD mask b 0)) (getD pattern b 0)) (getD-take len row b 0 h)
+
+-- whether a filter is longer than the first bytes of a row
+module _ (size len : ℕ) (row : List ℕ) (h : len ≤ length row) where
+  pub longer : len < size → leb size (length (take len row)) ≡ false
+  longer l = let e : length (take len row) ≡ len = length-take-le len row h in lt-leb size (length (take len row)) (omega arith)
+
+  pub not-longer : size ≤ len → leb size (length (take len row)) ≡ true
+  not-longer l = let e : length (take len row) ≡ len = length-take-le len row h in le-leb size (length (take len row)) (omega arith)
 
 same-kind : (b : Bool) → Bool·beq b b ≡ true
 same-kind true = refl
@@ -135,17 +148,21 @@ module _ (heads : List ℕ) (masks patterns : List (List ℕ)) (kind : ℕ) (wid
       unfolding matches
       other-width w = no-match (rw w)
 
+      pub too-long : leb (getD heads (sizesIn + f) 0) (length frame) ≡ false → Looked (f + 1)
+      unfolding matches
+      too-long l = no-match (rw (l, and-false))
+
       pub other-byte : (b : ℕ) → b < getD heads (sizesIn + f) 0 → fitsAt frame (getD masks f []) (getD patterns f []) b ≡ false → Looked (f + 1)
       unfolding matches
       other-byte b l e = no-match (rw (all-fails (fitsAt frame (getD masks f []) (getD patterns f [])) (getD heads (sizesIn + f) 0) b l e, and-false))
 
       -- a filter of the type and of the frame's width all of whose bytes fit
-      pub all-bytes : (b : ℕ) → Bool·beq wide (eqb 1 (getD heads (widthsIn + f) 0)) ≡ true → b ≡ getD heads (sizesIn + f) 0
+      pub all-bytes : (b : ℕ) → Bool·beq wide (eqb 1 (getD heads (widthsIn + f) 0)) ≡ true → leb (getD heads (sizesIn + f) 0) (length frame) ≡ true → b ≡ getD heads (sizesIn + f) 0
           → allBelow b (fitsAt frame (getD masks f []) (getD patterns f [])) ≡ true → true ≡ hits (eqb kind 2) (filtersIn heads masks patterns) wide frame
       unfolding matches
-      all-bytes b w e a =
+      all-bytes b w l e a =
           seen-found (eqb kind 2) (filtersIn heads masks patterns) ten-filters wide frame f s h Here is-here
-          (ap₂ (λ (x y : Bool). x && y) (ap (λ (n : ℕ). Bool·beq (eqb n 2) (eqb kind 2)) k ∙ same-kind (eqb kind 2)) (rw (w, ← e, a)))
+          (ap₂ (λ (x y : Bool). x && y) (ap (λ (n : ℕ). Bool·beq (eqb n 2) (eqb kind 2)) k ∙ same-kind (eqb kind 2)) (rw (w, l, ← e, a)))
 
 -- ---- the places behind the last filter
 

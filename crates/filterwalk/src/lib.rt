@@ -2,7 +2,7 @@
 ghost use mathlib.Core.Path.{_≡_};
 ghost use Prim.Native.Nat.{_≤_};
 ghost use lib.Dec.{eqb};
-ghost use lib.ListN.{length};
+ghost use lib.ListN.{length, take};
 ghost use Rattle.machine.specs.Limits.{mostPlaces};
 ghost use Rattle.machine.specs.Filter.{hits as someHits, passes};
 ghost use Rattle.layout.specs.Sizes.{masksIn};
@@ -45,7 +45,7 @@ fn end_of(heads: &[u8]) -> usize
     end
 }
 
-// Does a filter of this type and of the frame's width match? Of the heads the first ten are the types, then ten width marks and ten sizes. The
+// Does a filter of this type and of the frame's width match the first `len` bytes of a row? A longer one doesn't. Of the heads the first ten are the types, then ten width marks and ten sizes. The
 // comparison of one filter ends at the first byte that differs, the walk at the first filter that matches or behind the last one.
 fn hits(
     heads: &[u8],
@@ -54,10 +54,11 @@ fn hits(
     kind: u8,
     wide: bool,
     frame: &[u8; ROW],
+    len: usize,
     end: usize,
 ) -> bool
-    requires { ⌜ Heads (now heads) × (1 ≤ kind) × (kind ≤ 2) × (end ≤ mostPlaces) × EmptyFrom (now heads) end ⌝ }
-    ensures { λ r. ⌜ r ≡ someHits (eqb kind 2) (filtersIn (now (heads .entry)) (now (masks .entry)) (now (patterns .entry))) wide (now (frame .entry)) ⌝ }
+    requires { ⌜ Heads (now heads) × (1 ≤ kind) × (kind ≤ 2) × (len ≤ length (now frame)) × (end ≤ mostPlaces) × EmptyFrom (now heads) end ⌝ }
+    ensures { λ r. ⌜ r ≡ someHits (eqb kind 2) (filtersIn (now (heads .entry)) (now (masks .entry)) (now (patterns .entry))) wide (take len (now (frame .entry))) ⌝ }
 {
     let mut next = 0;
     'filters: while next < end {
@@ -70,6 +71,9 @@ fn hits(
             continue;
         }
         let size = heads[SIZES_IN + f] as usize;
+        if size > len {
+            continue;
+        }
         for b in 0..size {
             if frame[b] & masks[f][b] != patterns[f][b] {
                 continue 'filters;
@@ -80,23 +84,24 @@ fn hits(
     false
 }
 
-// The verdict of ten filters on a frame: some pass filter matches, and no block filter does.
+// The verdict of ten filters on a frame, the first `len` bytes of a row: some pass filter matches, and no block filter does.
 pub fn verdict(
     heads: &[u8],
     masks: [[u8; ROW]; PLACES],
     patterns: [[u8; ROW]; PLACES],
     wide: bool,
     frame: &[u8; ROW],
+    len: usize,
 ) -> bool
-    requires { ⌜ Heads (now heads) ⌝ }
-    ensures { λ r. ⌜ r ≡ passes (filtersIn (now (heads .entry)) masks patterns) wide (now (frame .entry)) ⌝ }
+    requires { ⌜ Heads (now heads) × (len ≤ length (now frame)) ⌝ }
+    ensures { λ r. ⌜ r ≡ passes (filtersIn (now (heads .entry)) masks patterns) wide (take len (now (frame .entry))) ⌝ }
 {
     let end = end_of(heads);
     if none_of(heads, BLOCK) {
-        return hits(heads, &masks, &patterns, PASS, wide, frame, end);
+        return hits(heads, &masks, &patterns, PASS, wide, frame, len, end);
     }
-    if hits(heads, &masks, &patterns, BLOCK, wide, frame, end) {
+    if hits(heads, &masks, &patterns, BLOCK, wide, frame, len, end) {
         return false;
     }
-    hits(heads, &masks, &patterns, PASS, wide, frame, end)
+    hits(heads, &masks, &patterns, PASS, wide, frame, len, end)
 }

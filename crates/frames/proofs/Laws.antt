@@ -1,15 +1,15 @@
 -- What a frame's tests give, its twelve bytes, and when it is queued. Assumes nothing.
-use mathlib.Core.Path.{_≡_, refl, sym, ap, ap₂, _∙_}
-use Prim.Native.Nat.{ℕ, _≤_, _<_}
+use mathlib.Core.Path.{_≡_, refl, sym, ap, ap₂, subst, _∙_}
+use Prim.Native.Nat.{ℕ, _+_, _≤_, _<_}
 use mathlib.Core.Bool.{Bool, true, false}
-use mathlib.Core.List.{List}
-use lib.ListN.{length, take, drop}
+use mathlib.Core.List.{List, _++_}
+use lib.ListN.{length, take, drop, length-append}
 use lib.Dec.{eqb}
 use borrow.Author.Tests.{lt-ltb, le-ltb}
 use Rattle.codec.specs.Word.{wordAt}
 use Rattle.machine.specs.Codes.{codeOf}
 use Rattle.machine.specs.Limits.{mostData, mostBytes}
-use Rattle.machine.specs.Message.{idLimit, takes, twelve, widthFlag, received}
+use Rattle.machine.specs.Message.{idLimit, takes, idBytes, twelve, widthFlag, received}
 use Rattle.machine.specs.Filter.{Slots, Filter, passes}
 use Rattle.machine.specs.Channel.{Chan, frameCode, offered}
 use Rattle.layout.specs.Sizes.{filtersAt, filtersSize}
@@ -18,7 +18,7 @@ use Rattle.layout.specs.Promise.{Opened}
 use Rattle.layout.proofs.Region.{openOf, kept, is-open, word-of, flags-part, filters-part}
 use Rattle.records.specs.Cell.{padded}
 use Rattle.queue.specs.Queue.{arrived}
-use Rattle.verdict.proofs.Frame.{padded-alike}
+use Rattle.verdict.proofs.Frame.{of-its-row, within-its-row}
 
 -- ---- the tests
 
@@ -45,6 +45,16 @@ pub as-row : (b : List ℕ) → padded mostData b ≡ twelve b
 unfolding padded twelve
 as-row b = refl
 
+-- ---- how many bytes a frame has: the identifier's four and its data
+
+pub frame-long : (id : ℕ) (b : List ℕ) → 4 + length b ≡ length (idBytes id ++ b)
+unfolding idBytes
+frame-long id b = sym (length-append (idBytes id) b)
+
+pub row-holds : (id : ℕ) (b frame : List ℕ) → frame ≡ twelve (idBytes id ++ b) → 4 + length b ≤ length frame
+row-holds id b frame e =
+    subst (λ (x : List ℕ). 4 + length b ≤ length x) (sym e) (subst (λ (n : ℕ). n ≤ length (twelve (idBytes id ++ b))) (sym (frame-long id b)) (within-its-row (idBytes id ++ b)))
+
 -- ---- offered
 
 module _ (r : List ℕ) (f : Opened r) (now : ℕ) (w : Bool) (bytes : List ℕ) where
@@ -65,6 +75,8 @@ module _ (r : List ℕ) (f : Opened r) (now : ℕ) (w : Bool) (bytes : List ℕ)
   pub width-taken : (n : ℕ) (b : Bool) → n ≡ wordAt 1 r → b ≡ takes n w → b ≡ takes (openOf r .config .flags) w
   width-taken n b e t = t ∙ ap (λ (k : ℕ). takes k w) (e ∙ word-of (flags-part r f))
 
-  pub verdict-is : (b : Bool) (frame : List ℕ) → frame ≡ twelve bytes → ((flags : ℕ) → b ≡ passes (filters flags .get (take filtersSize (drop filtersAt r))) w frame) → b ≡ passes (openOf r .filters) w bytes
-  verdict-is b frame e v =
-      v (openOf r .config .flags) ∙ ap₂ (λ (fs : Slots Filter) (x : List ℕ). passes fs w x) (filters-part r f .got) e ∙ padded-alike (openOf r .filters) w bytes
+  pub verdict-is : (b : Bool) (frame : List ℕ) (len : ℕ) → frame ≡ twelve bytes → len ≡ length bytes
+      → ((flags : ℕ) → b ≡ passes (filters flags .get (take filtersSize (drop filtersAt r))) w (take len frame)) → b ≡ passes (openOf r .filters) w bytes
+  verdict-is b frame len e l v =
+      v (openOf r .config .flags)
+      ∙ ap₂ (λ (fs : Slots Filter) (x : List ℕ). passes fs w x) (filters-part r f .got) (ap₂ (λ (n : ℕ) (x : List ℕ). take n x) l e ∙ of-its-row bytes)

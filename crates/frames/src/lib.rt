@@ -4,7 +4,7 @@ ghost use mathlib.Core.List.{_++_};
 ghost use Prim.Native.Nat.{_≤_};
 ghost use lib.ListN.{length, drop};
 ghost use Rattle.machine.specs.Limits.{mostBytes};
-ghost use Rattle.machine.specs.Message.{idBytes, twelve};
+ghost use Rattle.machine.specs.Message.{idBytes};
 ghost use Rattle.machine.specs.Channel.{frameCode, offered};
 ghost use Rattle.layout.specs.Memory.{openPart, region};
 ghost use Rattle.layout.specs.Promise.{Opened};
@@ -33,16 +33,6 @@ pub fn frame_code(wide: u32, id: u32, bytes: &[u8]) -> u32
     codes::STATUS_NOERROR
 }
 
-// The identifier and the data as a row, zeros behind them.
-fn twelve_bytes(id: u32, bytes: &[u8]) -> [u8; ROW]
-    requires { ⌜ length (now bytes) ≤ mostBytes ⌝ }
-    ensures { λ r. ⌜ r ≡ twelve (idBytes id ++ now (bytes .entry)) ⌝ }
-{
-    let mut frame = [0u8; ROW];
-    records::put_frame(&mut frame, id, bytes);
-    frame
-}
-
 // Offers a good frame to an open channel: queued exactly if the connection takes its width and the filters let it in.
 pub fn offer(r: &mut [u8], clock: u32, wide: bool, id: u32, bytes: &[u8])
     requires { ⌜ Opened (now r) × (length (now bytes) ≤ mostBytes) ⌝ }
@@ -51,7 +41,10 @@ pub fn offer(r: &mut [u8], clock: u32, wide: bool, id: u32, bytes: &[u8])
     if !can::takes_width(integers::word_at(r, FLAGS), wide) {
         return;
     }
-    if !verdict::lets_in(&r[FILTERS..PERIODICS], wide, twelve_bytes(id, bytes)) {
+    let mut frame = [0u8; ROW];
+    records::put_frame(&mut frame, id, bytes);
+    let len = NUMBER + bytes.len();
+    if !verdict::lets_in(&r[FILTERS..PERIODICS], wide, &frame, len) {
         return;
     }
     receiving::receive(r, clock, wide, id, bytes);

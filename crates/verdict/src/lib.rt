@@ -1,7 +1,7 @@
 // The verdict of a channel's filters on a frame: some pass filter matches, and no block filter does.
 ghost use mathlib.Core.Path.{_≡_};
 ghost use Prim.Native.Nat.{ℕ, _+_, _≤_};
-ghost use lib.ListN.{length};
+ghost use lib.ListN.{length, take};
 ghost use Rattle.machine.specs.Filter.{passes};
 ghost use Rattle.layout.specs.Sizes.{rowsSize};
 ghost use Rattle.layout.specs.Memory.{filters};
@@ -26,15 +26,15 @@ fn rows(mem: &[u8], at: usize) -> [[u8; ROW]; PLACES]
     out
 }
 
-// Do the filters let a frame in? The frame is its identifier's four bytes and its data, with zeros behind them.
-pub fn lets_in(part: &[u8], wide: bool, frame: [u8; ROW]) -> bool
-    requires { ⌜ FilterPart (now part) ⌝ }
-    ensures { λ r. ⌜ ((flags : ℕ) → r ≡ passes (filters flags .get (now (part .entry))) wide frame) ⌝ }
+// Do the filters let a frame in? The frame is its identifier's four bytes and its data, the first `len` bytes of a row.
+pub fn lets_in(part: &[u8], wide: bool, frame: &[u8; ROW], len: usize) -> bool
+    requires { ⌜ FilterPart (now part) × (len ≤ length (now frame)) ⌝ }
+    ensures { λ r. ⌜ ((flags : ℕ) → r ≡ passes (filters flags .get (now (part .entry))) wide (take len (now (frame .entry)))) ⌝ }
 {
     if filterwalk::none_of(&part[0..MASKS_IN], filterwalk::PASS) {
         return false;
     }
     let masks = rows(part, MASKS_IN);
     let patterns = rows(part, PATTERNS_IN);
-    filterwalk::verdict(&part[0..MASKS_IN], masks, patterns, wide, &frame)
+    filterwalk::verdict(&part[0..MASKS_IN], masks, patterns, wide, frame, len)
 }

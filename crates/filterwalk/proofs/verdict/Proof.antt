@@ -9,7 +9,7 @@ use Rattle.filterwalk.proofs.verdict.Tie as tie
 returns : tie.Need-returns
 returns c =
     let start = c .before .before .before .before .before .before .before in
-    not-blocked _ _ _ _ (none-hits _ _ _ 2 _ _ (start .pre) (omega arith) (omega arith) (sym (c .before .before .before .if1 .taken) ∙ c .before .before .before .before .none-of .ensures)) (c .hits .ensures)
+    not-blocked _ _ _ _ (none-hits _ _ _ 2 _ _ (start .pre .0) (omega arith) (omega arith) (sym (c .before .before .before .if1 .taken) ∙ c .before .before .before .before .none-of .ensures)) (c .hits .ensures)
 
 returns-2 : tie.Need-returns-2
 returns-2 c = blocked _ _ _ (sym (c .if2 .taken) ∙ c .before .hits2 .ensures)

@@ -5,7 +5,7 @@ use borrow.Author.Tests.{not-true, not-false}
 use denote.Ref.{now}
 use Rattle.machine.specs.Message.{idBytes}
 use Rattle.filterbank.proofs.Lent.{part-lent}
-use Rattle.frames.proofs.Laws.{not-taken, kept-out, let-in, width-taken, verdict-is}
+use Rattle.frames.proofs.Laws.{as-row, not-taken, kept-out, let-in, width-taken, frame-long, row-holds, verdict-is}
 use borrow.Author.Needs.{needs}
 use Rattle.frames.proofs.offer.Statement.{statement}
 use Rattle.frames.proofs.offer.Tie as tie
@@ -20,25 +20,26 @@ returns c =
 
 lets-in-requires : tie.Need-lets-in-requires
 lets-in-requires c κs =
-    part-lent (now (c .before .before .before .before .before .before .before .before .before .args .r)) (c .before .before .before .before .before .before .before .before .before .pre .0)
+    let start = c .before .before .before .before .before .before .before .before .before .before .before .before in
+    (part-lent (now (start .args .r)) (start .pre .0), row-holds (start .args .id) (now (start .args .bytes)) _ (c .before .before .before .before .put-frame .ensures ∙ as-row _))
 
 returns-2 : tie.Need-returns-2
 returns-2 c =
-    let start = c .before .before .before .before .before .before .before .before .before .before .before in
+    let start = c .before .before .before .before .before .before .before .before .before .before .before .before .before .before in
     let r : List ℕ = now (start .args .r) in
     let b : List ℕ = idBytes (start .args .id) ++ now (start .args .bytes) in
     kept-out r (start .pre .0) (start .args .clock) (start .args .wide) b
-    (sym (width-taken r (start .pre .0) (start .args .clock) (start .args .wide) b _ _ (c .before .before .before .before .before .before .before .word-at .ensures .0) (c .before .before .before .before .before .before .takes-width .ensures)) ∙ not-false _ (c .before .before .before .before .before .if1 .left))
-    (sym (verdict-is r (start .pre .0) (start .args .clock) (start .args .wide) b _ _ (c .before .before .twelve-bytes .ensures) (c .before .lets-in .ensures)) ∙ not-true _ (c .if2 .taken))
+    (sym (width-taken r (start .pre .0) (start .args .clock) (start .args .wide) b _ _ (c .before .before .before .before .before .before .before .before .before .before .word-at .ensures .0) (c .before .before .before .before .before .before .before .before .before .takes-width .ensures)) ∙ not-false _ (c .before .before .before .before .before .before .before .before .if1 .left))
+    (sym (verdict-is r (start .pre .0) (start .args .clock) (start .args .wide) b _ _ _ (c .before .before .before .before .before .before .put-frame .ensures ∙ as-row b) (frame-long (start .args .id) (now (start .args .bytes))) (c .before .lets-in .ensures)) ∙ not-true _ (c .if2 .taken))
 
 returns-3 : tie.Need-returns-3
 returns-3 c =
-    let start = c .before .before .before .before .before .before .before .before .before .before .before .before .before .before .before in
+    let start = c .before .before .before .before .before .before .before .before .before .before .before .before .before .before .before .before .before .before in
     let r : List ℕ = now (start .args .r) in
     let b : List ℕ = idBytes (start .args .id) ++ now (start .args .bytes) in
     let-in r (start .pre .0) (start .args .clock) (start .args .wide) b
-    (sym (width-taken r (start .pre .0) (start .args .clock) (start .args .wide) b _ _ (c .before .before .before .before .before .before .before .before .before .before .before .word-at .ensures .0) (c .before .before .before .before .before .before .before .before .before .before .takes-width .ensures)) ∙ not-false _ (c .before .before .before .before .before .before .before .before .before .if1 .left))
-    (sym (verdict-is r (start .pre .0) (start .args .clock) (start .args .wide) b _ _ (c .before .before .before .before .before .before .twelve-bytes .ensures) (c .before .before .before .before .before .lets-in .ensures)) ∙ not-false _ (c .before .before .before .before .if2 .left))
+    (sym (width-taken r (start .pre .0) (start .args .clock) (start .args .wide) b _ _ (c .before .before .before .before .before .before .before .before .before .before .before .before .before .before .word-at .ensures .0) (c .before .before .before .before .before .before .before .before .before .before .before .before .before .takes-width .ensures)) ∙ not-false _ (c .before .before .before .before .before .before .before .before .before .before .before .before .if1 .left))
+    (sym (verdict-is r (start .pre .0) (start .args .clock) (start .args .wide) b _ _ _ (c .before .before .before .before .before .before .before .before .before .before .put-frame .ensures ∙ as-row b) (frame-long (start .args .id) (now (start .args .bytes))) (c .before .before .before .before .before .lets-in .ensures)) ∙ not-false _ (c .before .before .before .before .if2 .left))
     _ (c .before .before .receive .ensures)
 
 pub offer-spec : {M : Type 1} → statement M
@@ -50,9 +51,11 @@ offer-spec =
     (λ c. search needs)
     returns
     (λ c. search needs)
-    (λ c. search needs)
-    (λ c. search needs)
     (λ c κs. search needs)
+    (λ c. search needs)
+    (λ c. search needs)
+    (λ c. search needs)
+    (λ c. search needs)
     lets-in-requires
     (λ c. search needs)
     returns-2
