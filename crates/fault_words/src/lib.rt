@@ -1,4 +1,7 @@
 // What is wrong with a recording, in words on a descriptor. Bytes are counted from 0, events from 1.
+ghost use mathlib.Core.Path.{_≡_};
+ghost use Rattle.number.specs.Place.{numberAt};
+ghost use Rattle.fault_words.specs.Told.{told};
 use fault::Spot;
 use number::Number;
 
@@ -10,7 +13,9 @@ fn about(fd: i32, before: &[u8], n: u64, after: &[u8]) {
 }
 
 // The number at a place, 0 where there is none.
-fn number_at(recording: &[u8], at: usize) -> u32 {
+fn number_at(recording: &[u8], at: usize) -> u32
+    ensures { λ r. ⌜ r ≡ told (numberAt (now (recording .entry)) at) ⌝ }
+{
     let Number::Value { value, next: _ } = reader::read_number(recording, at) else {
         return 0;
     };

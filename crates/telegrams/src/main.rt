@@ -15,7 +15,7 @@ fn time(b: u8) {
 fn main() {
     worked_reads::reads();
     worked_writes::writes_on_channel();
-    worked_openings::writes_of_openings();
+    worked_writes::writes_of_openings();
     time(0x00);
     time(0x32);
     time(0x41);
