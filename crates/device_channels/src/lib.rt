@@ -1,7 +1,7 @@
 // A channel is opened, set up and closed, on any bytes that are lent as the memory: connect, disconnect, get, set, clear.
 ghost use mathlib.Core.Path.{_≡_};
 ghost use mathlib.Core.List.{[]};
-ghost use Rattle.machine.specs.Codes.{threeRates};
+ghost use Rattle.machine.specs.Codes.{twoRates};
 ghost use Rattle.machine.specs.Channel.{disconnect as disconnects};
 ghost use Rattle.machine.specs.Channel.{clear as clears};
 ghost use Rattle.machine.specs.Channel.{getParameter, setParameter};
@@ -13,7 +13,7 @@ use codes::Answer;
 
 // Opens the channel of a line and gives its number.
 pub fn connect(mem: &mut [u8], line: u32, protocol: u32, flags: u32, rate: u32) -> Answer
-    ensures { λ a. ⌜ gives (a .code) (a .value) [] (now (mem .exit)) ≡ outcome threeRates (now (mem .entry)) (connects line protocol flags rate) ⌝ }
+    ensures { λ a. ⌜ gives (a .code) (a .value) [] (now (mem .exit)) ≡ outcome twoRates (now (mem .entry)) (connects line protocol flags rate) ⌝ }
 {
     if !validity::valid(mem) {
         return Answer {
@@ -27,7 +27,7 @@ pub fn connect(mem: &mut [u8], line: u32, protocol: u32, flags: u32, rate: u32) 
 
 // A parameter's value.
 pub fn get(mem: &[u8], channel: u32, parameter: u32) -> Answer
-    ensures { λ a. ⌜ gives (a .code) (a .value) [] (now (mem .entry)) ≡ outcome threeRates (now (mem .entry)) (call channel (getParameter parameter)) ⌝ }
+    ensures { λ a. ⌜ gives (a .code) (a .value) [] (now (mem .entry)) ≡ outcome twoRates (now (mem .entry)) (call channel (getParameter parameter)) ⌝ }
 {
     if !validity::valid(mem) {
         return Answer {
@@ -40,7 +40,7 @@ pub fn get(mem: &[u8], channel: u32, parameter: u32) -> Answer
 
 // A parameter's new value.
 pub fn set(mem: &mut [u8], channel: u32, parameter: u32, value: u32) -> u32
-    ensures { λ c. ⌜ gives c 0 [] (now (mem .exit)) ≡ outcome threeRates (now (mem .entry)) (call channel (setParameter parameter value)) ⌝ }
+    ensures { λ c. ⌜ gives c 0 [] (now (mem .exit)) ≡ outcome twoRates (now (mem .entry)) (call channel (setParameter parameter value)) ⌝ }
 {
     if !validity::valid(mem) {
         return codes::ERR_INVALID_DEVICE_ID;
@@ -51,7 +51,7 @@ pub fn set(mem: &mut [u8], channel: u32, parameter: u32, value: u32) -> u32
 
 // Closes a channel.
 pub fn disconnect(mem: &mut [u8], channel: u32) -> u32
-    ensures { λ c. ⌜ gives c 0 [] (now (mem .exit)) ≡ outcome threeRates (now (mem .entry)) (call channel disconnects) ⌝ }
+    ensures { λ c. ⌜ gives c 0 [] (now (mem .exit)) ≡ outcome twoRates (now (mem .entry)) (call channel disconnects) ⌝ }
 {
     if !validity::valid(mem) {
         return codes::ERR_INVALID_DEVICE_ID;
@@ -61,7 +61,7 @@ pub fn disconnect(mem: &mut [u8], channel: u32) -> u32
 
 // Empties one kind of what a channel holds.
 pub fn clear(mem: &mut [u8], channel: u32, kind: u32) -> u32
-    ensures { λ c. ⌜ gives c 0 [] (now (mem .exit)) ≡ outcome threeRates (now (mem .entry)) (call channel (clears kind)) ⌝ }
+    ensures { λ c. ⌜ gives c 0 [] (now (mem .exit)) ≡ outcome twoRates (now (mem .entry)) (call channel (clears kind)) ⌝ }
 {
     if !validity::valid(mem) {
         return codes::ERR_INVALID_DEVICE_ID;

@@ -1,7 +1,7 @@
 // What concerns a line or the whole box, on any bytes that are lent as its memory: power-on, a frame, time that goes on, close.
 ghost use mathlib.Core.Path.{_≡_};
 ghost use mathlib.Core.List.{[]};
-ghost use Rattle.machine.specs.Codes.{threeRates};
+ghost use Rattle.machine.specs.Codes.{twoRates};
 ghost use Rattle.machine.specs.Device.{close as closes};
 ghost use Rattle.machine.specs.Device.{advance as advances};
 ghost use Rattle.machine.specs.Device.{frame as framed};
@@ -21,7 +21,7 @@ pub fn power_on(mem: &mut [u8]) -> u32
 
 // Disconnects all; the clock runs on.
 pub fn close(mem: &mut [u8]) -> u32
-    ensures { λ c. ⌜ gives c 0 [] (now (mem .exit)) ≡ outcome threeRates (now (mem .entry)) closes ⌝ }
+    ensures { λ c. ⌜ gives c 0 [] (now (mem .exit)) ≡ outcome twoRates (now (mem .entry)) closes ⌝ }
 {
     if !validity::valid(mem) {
         return codes::ERR_INVALID_DEVICE_ID;
@@ -31,7 +31,7 @@ pub fn close(mem: &mut [u8]) -> u32
 
 // Time goes on, for the clock and every periodic.
 pub fn advance(mem: &mut [u8], us: u32) -> u32
-    ensures { λ c. ⌜ gives c 0 [] (now (mem .exit)) ≡ outcome threeRates (now (mem .entry)) (advances us) ⌝ }
+    ensures { λ c. ⌜ gives c 0 [] (now (mem .exit)) ≡ outcome twoRates (now (mem .entry)) (advances us) ⌝ }
 {
     if !validity::valid(mem) {
         return codes::ERR_INVALID_DEVICE_ID;
@@ -41,7 +41,7 @@ pub fn advance(mem: &mut [u8], us: u32) -> u32
 
 // A frame from a line, offered to the line's channel.
 pub fn frame(mem: &mut [u8], line: u32, wide: u32, id: u32, bytes: &[u8]) -> u32
-    ensures { λ c. ⌜ gives c 0 [] (now (mem .exit)) ≡ outcome threeRates (now (mem .entry)) (framed line wide id (now (bytes .entry))) ⌝ }
+    ensures { λ c. ⌜ gives c 0 [] (now (mem .exit)) ≡ outcome twoRates (now (mem .entry)) (framed line wide id (now (bytes .entry))) ⌝ }
 {
     if !validity::valid(mem) {
         return codes::ERR_INVALID_DEVICE_ID;

@@ -1,7 +1,7 @@
 // Standing orders of a channel, on any bytes that are lent as the memory: its filters and periodics are started and stopped.
 ghost use mathlib.Core.Path.{_≡_};
 ghost use mathlib.Core.List.{[]};
-ghost use Rattle.machine.specs.Codes.{threeRates};
+ghost use Rattle.machine.specs.Codes.{twoRates};
 ghost use Rattle.machine.specs.Channel.{startFilter, stopFilter, startPeriodic, stopPeriodic};
 ghost use Rattle.machine.specs.Device.{call};
 ghost use Rattle.layout.specs.Promise.{gives, outcome};
@@ -9,7 +9,7 @@ use codes::Answer;
 
 // A filter more; its number.
 pub fn start_filter(mem: &mut [u8], channel: u32, kind: u32, mask: &[u8], pattern: &[u8]) -> Answer
-    ensures { λ a. ⌜ gives (a .code) (a .value) [] (now (mem .exit)) ≡ outcome threeRates (now (mem .entry)) (call channel (startFilter kind (now (mask .entry)) (now (pattern .entry)))) ⌝ }
+    ensures { λ a. ⌜ gives (a .code) (a .value) [] (now (mem .exit)) ≡ outcome twoRates (now (mem .entry)) (call channel (startFilter kind (now (mask .entry)) (now (pattern .entry)))) ⌝ }
 {
     if !validity::valid(mem) {
         return Answer {
@@ -22,7 +22,7 @@ pub fn start_filter(mem: &mut [u8], channel: u32, kind: u32, mask: &[u8], patter
 
 // A filter less.
 pub fn stop_filter(mem: &mut [u8], channel: u32, number: u32) -> u32
-    ensures { λ c. ⌜ gives c 0 [] (now (mem .exit)) ≡ outcome threeRates (now (mem .entry)) (call channel (stopFilter number)) ⌝ }
+    ensures { λ c. ⌜ gives c 0 [] (now (mem .exit)) ≡ outcome twoRates (now (mem .entry)) (call channel (stopFilter number)) ⌝ }
 {
     if !validity::valid(mem) {
         return codes::ERR_INVALID_DEVICE_ID;
@@ -32,7 +32,7 @@ pub fn stop_filter(mem: &mut [u8], channel: u32, number: u32) -> u32
 
 // A periodic more; its number.
 pub fn start_periodic(mem: &mut [u8], channel: u32, message: &[u8], interval: u32) -> Answer
-    ensures { λ a. ⌜ gives (a .code) (a .value) [] (now (mem .exit)) ≡ outcome threeRates (now (mem .entry)) (call channel (startPeriodic (now (message .entry)) interval)) ⌝ }
+    ensures { λ a. ⌜ gives (a .code) (a .value) [] (now (mem .exit)) ≡ outcome twoRates (now (mem .entry)) (call channel (startPeriodic (now (message .entry)) interval)) ⌝ }
 {
     if !validity::valid(mem) {
         return Answer {
@@ -45,7 +45,7 @@ pub fn start_periodic(mem: &mut [u8], channel: u32, message: &[u8], interval: u3
 
 // A periodic less.
 pub fn stop_periodic(mem: &mut [u8], channel: u32, number: u32) -> u32
-    ensures { λ c. ⌜ gives c 0 [] (now (mem .exit)) ≡ outcome threeRates (now (mem .entry)) (call channel (stopPeriodic number)) ⌝ }
+    ensures { λ c. ⌜ gives c 0 [] (now (mem .exit)) ≡ outcome twoRates (now (mem .entry)) (call channel (stopPeriodic number)) ⌝ }
 {
     if !validity::valid(mem) {
         return codes::ERR_INVALID_DEVICE_ID;

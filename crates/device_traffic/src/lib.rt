@@ -1,7 +1,7 @@
 // A channel's traffic, on any bytes that are lent as the memory: write, read, take, sent.
 ghost use mathlib.Core.Path.{_≡_};
 ghost use mathlib.Core.List.{[]};
-ghost use Rattle.machine.specs.Codes.{threeRates};
+ghost use Rattle.machine.specs.Codes.{twoRates};
 ghost use Rattle.machine.specs.Channel.{write as writes};
 ghost use Rattle.machine.specs.Channel.{read as reads};
 ghost use Rattle.machine.specs.Channel.{takeNext};
@@ -12,7 +12,7 @@ use codes::Answer;
 
 // Queues records to send; how many.
 pub fn write(mem: &mut [u8], channel: u32, n: u32, buffer: &[u8]) -> Answer
-    ensures { λ a. ⌜ gives (a .code) (a .value) [] (now (mem .exit)) ≡ outcome threeRates (now (mem .entry)) (call channel (writes n (now (buffer .entry)))) ⌝ }
+    ensures { λ a. ⌜ gives (a .code) (a .value) [] (now (mem .exit)) ≡ outcome twoRates (now (mem .entry)) (call channel (writes n (now (buffer .entry)))) ⌝ }
 {
     if !validity::valid(mem) {
         return Answer {
@@ -25,7 +25,7 @@ pub fn write(mem: &mut [u8], channel: u32, n: u32, buffer: &[u8]) -> Answer
 
 // Moves received records to a buffer; how many.
 pub fn read(mem: &mut [u8], channel: u32, n: u32, buffer: &mut [u8]) -> Answer
-    ensures { λ a. ⌜ gives (a .code) (a .value) (now (buffer .exit)) (now (mem .exit)) ≡ outcome threeRates (now (mem .entry)) (call channel (reads n (now (buffer .entry)))) ⌝ }
+    ensures { λ a. ⌜ gives (a .code) (a .value) (now (buffer .exit)) (now (mem .exit)) ≡ outcome twoRates (now (mem .entry)) (call channel (reads n (now (buffer .entry)))) ⌝ }
 {
     if !validity::valid(mem) {
         return Answer {
@@ -38,7 +38,7 @@ pub fn read(mem: &mut [u8], channel: u32, n: u32, buffer: &mut [u8]) -> Answer
 
 // The frame to send next, to a buffer; it stays in flight.
 pub fn take(mem: &mut [u8], channel: u32, buffer: &mut [u8]) -> u32
-    ensures { λ c. ⌜ gives c 0 (now (buffer .exit)) (now (mem .exit)) ≡ outcome threeRates (now (mem .entry)) (call channel (takeNext (now (buffer .entry)))) ⌝ }
+    ensures { λ c. ⌜ gives c 0 (now (buffer .exit)) (now (mem .exit)) ≡ outcome twoRates (now (mem .entry)) (call channel (takeNext (now (buffer .entry)))) ⌝ }
 {
     if !validity::valid(mem) {
         return codes::ERR_INVALID_DEVICE_ID;
@@ -48,7 +48,7 @@ pub fn take(mem: &mut [u8], channel: u32, buffer: &mut [u8]) -> u32
 
 // The frame in flight is on the line.
 pub fn sent(mem: &mut [u8], channel: u32) -> u32
-    ensures { λ c. ⌜ gives c 0 [] (now (mem .exit)) ≡ outcome threeRates (now (mem .entry)) (call channel sentOf) ⌝ }
+    ensures { λ c. ⌜ gives c 0 [] (now (mem .exit)) ≡ outcome twoRates (now (mem .entry)) (call channel sentOf) ⌝ }
 {
     if !validity::valid(mem) {
         return codes::ERR_INVALID_DEVICE_ID;

@@ -3,7 +3,7 @@ ghost use mathlib.Core.Path.{_≡_};
 ghost use mathlib.Core.List.{[]};
 ghost use mathlib.Core.Bool.{not};
 ghost use lib.Dec.{eqb};
-ghost use Rattle.machine.specs.Codes.{threeRates};
+ghost use Rattle.machine.specs.Codes.{twoRates};
 ghost use Rattle.machine.specs.Channel.{disconnect, clear, write, read, takeNext, sent, startFilter, stopFilter, startPeriodic, stopPeriodic, getParameter, setParameter};
 ghost use Rattle.machine.specs.Device.{call, connect, close, advance, frame};
 ghost use Rattle.layout.specs.Memory.{valid};
@@ -46,7 +46,7 @@ pub extern "C" fn trawl_connect(
     rate: u32,
     channel: &mut u32,
 ) -> u32
-    ensures { λ c. ⌜ gives c (now (channel .exit)) [] (now (mem .exit)) ≡ outcome threeRates (now (mem .entry)) (connect line protocol flags rate) ⌝ }
+    ensures { λ c. ⌜ gives c (now (channel .exit)) [] (now (mem .exit)) ≡ outcome twoRates (now (mem .entry)) (connect line protocol flags rate) ⌝ }
 {
     let answer = device::connect(mem, line, protocol, flags, rate);
     *channel = answer.value;
@@ -56,7 +56,7 @@ pub extern "C" fn trawl_connect(
 // Disconnects all; the clock runs on.
 #[no_mangle]
 pub extern "C" fn trawl_close(mem: &mut [u8]) -> u32
-    ensures { λ c. ⌜ gives c 0 [] (now (mem .exit)) ≡ outcome threeRates (now (mem .entry)) close ⌝ }
+    ensures { λ c. ⌜ gives c 0 [] (now (mem .exit)) ≡ outcome twoRates (now (mem .entry)) close ⌝ }
 {
     device::close(mem)
 }
@@ -64,7 +64,7 @@ pub extern "C" fn trawl_close(mem: &mut [u8]) -> u32
 // Time goes on, for the clock and every periodic.
 #[no_mangle]
 pub extern "C" fn trawl_advance(mem: &mut [u8], us: u32) -> u32
-    ensures { λ c. ⌜ gives c 0 [] (now (mem .exit)) ≡ outcome threeRates (now (mem .entry)) (advance us) ⌝ }
+    ensures { λ c. ⌜ gives c 0 [] (now (mem .exit)) ≡ outcome twoRates (now (mem .entry)) (advance us) ⌝ }
 {
     device::advance(mem, us)
 }
@@ -72,7 +72,7 @@ pub extern "C" fn trawl_advance(mem: &mut [u8], us: u32) -> u32
 // A frame from a line, offered to the line's channel.
 #[no_mangle]
 pub extern "C" fn trawl_frame(mem: &mut [u8], line: u32, wide: u32, id: u32, bytes: &[u8]) -> u32
-    ensures { λ c. ⌜ gives c 0 [] (now (mem .exit)) ≡ outcome threeRates (now (mem .entry)) (frame line wide id (now (bytes .entry))) ⌝ }
+    ensures { λ c. ⌜ gives c 0 [] (now (mem .exit)) ≡ outcome twoRates (now (mem .entry)) (frame line wide id (now (bytes .entry))) ⌝ }
 {
     device::frame(mem, line, wide, id, bytes)
 }
@@ -80,7 +80,7 @@ pub extern "C" fn trawl_frame(mem: &mut [u8], line: u32, wide: u32, id: u32, byt
 // Closes a channel.
 #[no_mangle]
 pub extern "C" fn trawl_disconnect(mem: &mut [u8], channel: u32) -> u32
-    ensures { λ c. ⌜ gives c 0 [] (now (mem .exit)) ≡ outcome threeRates (now (mem .entry)) (call channel disconnect) ⌝ }
+    ensures { λ c. ⌜ gives c 0 [] (now (mem .exit)) ≡ outcome twoRates (now (mem .entry)) (call channel disconnect) ⌝ }
 {
     device::disconnect(mem, channel)
 }
@@ -95,7 +95,7 @@ pub extern "C" fn trawl_start_filter(
     pattern: &[u8],
     number: &mut u32,
 ) -> u32
-    ensures { λ c. ⌜ gives c (now (number .exit)) [] (now (mem .exit)) ≡ outcome threeRates (now (mem .entry)) (call channel (startFilter kind (now (mask .entry)) (now (pattern .entry)))) ⌝ }
+    ensures { λ c. ⌜ gives c (now (number .exit)) [] (now (mem .exit)) ≡ outcome twoRates (now (mem .entry)) (call channel (startFilter kind (now (mask .entry)) (now (pattern .entry)))) ⌝ }
 {
     let answer = device::start_filter(mem, channel, kind, mask, pattern);
     *number = answer.value;
@@ -105,7 +105,7 @@ pub extern "C" fn trawl_start_filter(
 // A filter less.
 #[no_mangle]
 pub extern "C" fn trawl_stop_filter(mem: &mut [u8], channel: u32, number: u32) -> u32
-    ensures { λ c. ⌜ gives c 0 [] (now (mem .exit)) ≡ outcome threeRates (now (mem .entry)) (call channel (stopFilter number)) ⌝ }
+    ensures { λ c. ⌜ gives c 0 [] (now (mem .exit)) ≡ outcome twoRates (now (mem .entry)) (call channel (stopFilter number)) ⌝ }
 {
     device::stop_filter(mem, channel, number)
 }
@@ -119,7 +119,7 @@ pub extern "C" fn trawl_start_periodic(
     interval: u32,
     number: &mut u32,
 ) -> u32
-    ensures { λ c. ⌜ gives c (now (number .exit)) [] (now (mem .exit)) ≡ outcome threeRates (now (mem .entry)) (call channel (startPeriodic (now (message .entry)) interval)) ⌝ }
+    ensures { λ c. ⌜ gives c (now (number .exit)) [] (now (mem .exit)) ≡ outcome twoRates (now (mem .entry)) (call channel (startPeriodic (now (message .entry)) interval)) ⌝ }
 {
     let answer = device::start_periodic(mem, channel, message, interval);
     *number = answer.value;
@@ -129,7 +129,7 @@ pub extern "C" fn trawl_start_periodic(
 // A periodic less.
 #[no_mangle]
 pub extern "C" fn trawl_stop_periodic(mem: &mut [u8], channel: u32, number: u32) -> u32
-    ensures { λ c. ⌜ gives c 0 [] (now (mem .exit)) ≡ outcome threeRates (now (mem .entry)) (call channel (stopPeriodic number)) ⌝ }
+    ensures { λ c. ⌜ gives c 0 [] (now (mem .exit)) ≡ outcome twoRates (now (mem .entry)) (call channel (stopPeriodic number)) ⌝ }
 {
     device::stop_periodic(mem, channel, number)
 }
@@ -143,7 +143,7 @@ pub extern "C" fn trawl_write(
     buffer: &[u8],
     count: &mut u32,
 ) -> u32
-    ensures { λ c. ⌜ gives c (now (count .exit)) [] (now (mem .exit)) ≡ outcome threeRates (now (mem .entry)) (call channel (write n (now (buffer .entry)))) ⌝ }
+    ensures { λ c. ⌜ gives c (now (count .exit)) [] (now (mem .exit)) ≡ outcome twoRates (now (mem .entry)) (call channel (write n (now (buffer .entry)))) ⌝ }
 {
     let answer = device::write(mem, channel, n, buffer);
     *count = answer.value;
@@ -159,7 +159,7 @@ pub extern "C" fn trawl_read(
     buffer: &mut [u8],
     count: &mut u32,
 ) -> u32
-    ensures { λ c. ⌜ gives c (now (count .exit)) (now (buffer .exit)) (now (mem .exit)) ≡ outcome threeRates (now (mem .entry)) (call channel (read n (now (buffer .entry)))) ⌝ }
+    ensures { λ c. ⌜ gives c (now (count .exit)) (now (buffer .exit)) (now (mem .exit)) ≡ outcome twoRates (now (mem .entry)) (call channel (read n (now (buffer .entry)))) ⌝ }
 {
     let answer = device::read(mem, channel, n, buffer);
     *count = answer.value;
@@ -169,7 +169,7 @@ pub extern "C" fn trawl_read(
 // The frame to send next, to a buffer; it stays in flight.
 #[no_mangle]
 pub extern "C" fn trawl_take(mem: &mut [u8], channel: u32, buffer: &mut [u8]) -> u32
-    ensures { λ c. ⌜ gives c 0 (now (buffer .exit)) (now (mem .exit)) ≡ outcome threeRates (now (mem .entry)) (call channel (takeNext (now (buffer .entry)))) ⌝ }
+    ensures { λ c. ⌜ gives c 0 (now (buffer .exit)) (now (mem .exit)) ≡ outcome twoRates (now (mem .entry)) (call channel (takeNext (now (buffer .entry)))) ⌝ }
 {
     device::take(mem, channel, buffer)
 }
@@ -177,7 +177,7 @@ pub extern "C" fn trawl_take(mem: &mut [u8], channel: u32, buffer: &mut [u8]) ->
 // The frame in flight is on the line.
 #[no_mangle]
 pub extern "C" fn trawl_sent(mem: &mut [u8], channel: u32) -> u32
-    ensures { λ c. ⌜ gives c 0 [] (now (mem .exit)) ≡ outcome threeRates (now (mem .entry)) (call channel sent) ⌝ }
+    ensures { λ c. ⌜ gives c 0 [] (now (mem .exit)) ≡ outcome twoRates (now (mem .entry)) (call channel sent) ⌝ }
 {
     device::sent(mem, channel)
 }
@@ -185,7 +185,7 @@ pub extern "C" fn trawl_sent(mem: &mut [u8], channel: u32) -> u32
 // Empties one kind of what a channel holds.
 #[no_mangle]
 pub extern "C" fn trawl_clear(mem: &mut [u8], channel: u32, kind: u32) -> u32
-    ensures { λ c. ⌜ gives c 0 [] (now (mem .exit)) ≡ outcome threeRates (now (mem .entry)) (call channel (clear kind)) ⌝ }
+    ensures { λ c. ⌜ gives c 0 [] (now (mem .exit)) ≡ outcome twoRates (now (mem .entry)) (call channel (clear kind)) ⌝ }
 {
     device::clear(mem, channel, kind)
 }
@@ -193,7 +193,7 @@ pub extern "C" fn trawl_clear(mem: &mut [u8], channel: u32, kind: u32) -> u32
 // A parameter's value.
 #[no_mangle]
 pub extern "C" fn trawl_get(mem: &[u8], channel: u32, parameter: u32, value: &mut u32) -> u32
-    ensures { λ c. ⌜ gives c (now (value .exit)) [] (now (mem .entry)) ≡ outcome threeRates (now (mem .entry)) (call channel (getParameter parameter)) ⌝ }
+    ensures { λ c. ⌜ gives c (now (value .exit)) [] (now (mem .entry)) ≡ outcome twoRates (now (mem .entry)) (call channel (getParameter parameter)) ⌝ }
 {
     let answer = device::get(mem, channel, parameter);
     *value = answer.value;
@@ -203,7 +203,7 @@ pub extern "C" fn trawl_get(mem: &[u8], channel: u32, parameter: u32, value: &mu
 // A parameter's new value.
 #[no_mangle]
 pub extern "C" fn trawl_set(mem: &mut [u8], channel: u32, parameter: u32, value: u32) -> u32
-    ensures { λ c. ⌜ gives c 0 [] (now (mem .exit)) ≡ outcome threeRates (now (mem .entry)) (call channel (setParameter parameter value)) ⌝ }
+    ensures { λ c. ⌜ gives c 0 [] (now (mem .exit)) ≡ outcome twoRates (now (mem .entry)) (call channel (setParameter parameter value)) ⌝ }
 {
     device::set(mem, channel, parameter, value)
 }
