@@ -9,7 +9,10 @@ ghost use Rattle.machine.specs.Channel.{isFlags};
 pub const PROTOCOL: u32 = 5;
 
 // The rates that a connect and a set take.
-pub const RATES: [u32; 3] = [125000, 250000, 500000];
+pub const RATES: [u32; 2] = [250000, 500000];
+
+// The rates that they take in a recording without an edition.
+pub const OLD_RATES: [u32; 3] = [125000, 250000, 500000];
 
 // Does a connection of these flags take frames of this width?
 pub fn takes_width(flags: u32, wide: bool) -> bool

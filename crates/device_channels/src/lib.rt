@@ -11,9 +11,16 @@ ghost use Rattle.layout.specs.Promise.{gives, outcome};
 use can::RATES;
 use codes::Answer;
 
-// Opens the channel of a line and gives its number.
-pub fn connect(mem: &mut [u8], line: u32, protocol: u32, flags: u32, rate: u32) -> Answer
-    ensures { λ a. ⌜ gives (a .code) (a .value) [] (now (mem .exit)) ≡ outcome twoRates (now (mem .entry)) (connects line protocol flags rate) ⌝ }
+// Opens the channel of a line, at one of the rates lent, and gives its number: for programs that replay a recording of any edition.
+pub fn connect_with(
+    mem: &mut [u8],
+    rates: &[u32],
+    line: u32,
+    protocol: u32,
+    flags: u32,
+    rate: u32,
+) -> Answer
+    ensures { λ a. ⌜ gives (a .code) (a .value) [] (now (mem .exit)) ≡ outcome (now (rates .entry)) (now (mem .entry)) (connects line protocol flags rate) ⌝ }
 {
     if !validity::valid(mem) {
         return Answer {
@@ -21,8 +28,15 @@ pub fn connect(mem: &mut [u8], line: u32, protocol: u32, flags: u32, rate: u32) 
             value: 0,
         };
     }
+    owned_channels::connect(mem, rates, line, protocol, flags, rate)
+}
+
+// Opens the channel of a line and gives its number.
+pub fn connect(mem: &mut [u8], line: u32, protocol: u32, flags: u32, rate: u32) -> Answer
+    ensures { λ a. ⌜ gives (a .code) (a .value) [] (now (mem .exit)) ≡ outcome twoRates (now (mem .entry)) (connects line protocol flags rate) ⌝ }
+{
     let rates = RATES;
-    owned_channels::connect(mem, &rates, line, protocol, flags, rate)
+    connect_with(mem, &rates, line, protocol, flags, rate)
 }
 
 // A parameter's value.
@@ -38,15 +52,22 @@ pub fn get(mem: &[u8], channel: u32, parameter: u32) -> Answer
     owned_channels::get(mem, channel, parameter)
 }
 
-// A parameter's new value.
-pub fn set(mem: &mut [u8], channel: u32, parameter: u32, value: u32) -> u32
-    ensures { λ c. ⌜ gives c 0 [] (now (mem .exit)) ≡ outcome twoRates (now (mem .entry)) (call channel (setParameter parameter value)) ⌝ }
+// A parameter's new value; a rate is one of the rates lent: for programs that replay a recording of any edition.
+pub fn set_with(mem: &mut [u8], rates: &[u32], channel: u32, parameter: u32, value: u32) -> u32
+    ensures { λ c. ⌜ gives c 0 [] (now (mem .exit)) ≡ outcome (now (rates .entry)) (now (mem .entry)) (call channel (setParameter parameter value)) ⌝ }
 {
     if !validity::valid(mem) {
         return codes::ERR_INVALID_DEVICE_ID;
     }
+    owned_channels::set(mem, rates, channel, parameter, value)
+}
+
+// A parameter's new value.
+pub fn set(mem: &mut [u8], channel: u32, parameter: u32, value: u32) -> u32
+    ensures { λ c. ⌜ gives c 0 [] (now (mem .exit)) ≡ outcome twoRates (now (mem .entry)) (call channel (setParameter parameter value)) ⌝ }
+{
     let rates = RATES;
-    owned_channels::set(mem, &rates, channel, parameter, value)
+    set_with(mem, &rates, channel, parameter, value)
 }
 
 // Closes a channel.

@@ -1,24 +1,9 @@
--- `device_channels::set` meets its contract. Assumes nothing.
-use mathlib.Core.Path.{sym, _∙_}
+-- `device_channels::set` meets its contract: the rates of now are lent. Assumes nothing.
 use borrow.Author.Needs.{needs}
-use borrow.Author.Tests.{not-true, not-false}
-use Rattle.codec.proofs.Tests.{true-T}
-use Rattle.machine.specs.Channel.{lent}
 use Rattle.machine.specs.Codes.{twoRates}
-use Rattle.machine.specs.Device.{lentBy}
-use Rattle.layout.proofs.Entry.{not-valid}
 use Rattle.device_channels.proofs.set.Statement.{statement}
 use Rattle.device_channels.proofs.set.Tie as tie
 
 pub set-spec : {M : Type 1} → statement M
-unfolding lentBy lent twoRates
-set-spec =
-    tie.close
-    (tie.spec
-    (λ c κs. search needs)
-    (λ c. search needs)
-    (λ c. not-valid twoRates _ _ (sym (c .before .valid .ensures) ∙ not-true _ (c .if1 .taken)))
-    (λ c. search needs)
-    (λ c κs. true-T _ (sym (c .before .before .before .valid .ensures) ∙ not-false _ (c .before .before .if1 .left)))
-    (λ c. search needs)
-    (λ c. c .before .before .set .ensures))
+unfolding twoRates
+set-spec = tie.close (tie.spec (λ c. search needs) (λ c κs. search needs) (λ c. search needs) (λ c. c .before .before .set-with .ensures))

@@ -1,0 +1,22 @@
+-- `device_channels::connect_with` meets its contract. Assumes nothing.
+use mathlib.Core.Path.{sym, _∙_}
+use borrow.Author.Needs.{needs}
+use borrow.Author.Tests.{not-true, not-false}
+use Rattle.codec.proofs.Tests.{true-T}
+use Rattle.machine.specs.Channel.{lent}
+use Rattle.machine.specs.Device.{lentBy}
+use Rattle.layout.proofs.Entry.{not-valid}
+use Rattle.device_channels.proofs.connect_with.Statement.{statement}
+use Rattle.device_channels.proofs.connect_with.Tie as tie
+
+pub connect-with-spec : {M : Type 1} → statement M
+unfolding lentBy lent
+connect-with-spec =
+    tie.close
+    (tie.spec
+    (λ c κs. search needs)
+    (λ c. search needs)
+    (λ c. not-valid _ _ _ (sym (c .before .valid .ensures) ∙ not-true _ (c .if1 .taken)))
+    (λ c κs. true-T _ (sym (c .before .before .valid .ensures) ∙ not-false _ (c .before .if1 .left)))
+    (λ c. search needs)
+    (λ c. c .before .before .connect .ensures))
