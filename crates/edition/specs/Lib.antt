@@ -1,0 +1,2 @@
+-- The edition of a recording. Assumes nothing.
+pub mod Edition
