@@ -4,11 +4,12 @@ use mathlib.Core.Bool.{Bool, true, false, _&&_}
 use mathlib.Core.List.{List}
 use mathlib.Core.Path.{_≡_, refl, sym, _∙_}
 use native.Mathlib.Omega.{arith}
-use borrow.Author.Tests.{lt-ltb, le-ltb, ltb-true, ltb-false}
-use lib.Dec.{eqb, ltb}
+use borrow.Author.Tests.{lt-ltb, le-ltb, ltb-true, ltb-false, ne-eqb}
+use lib.Dec.{T, eqb, ltb, eqb→eq}
 use lib.ListN.{length, getD}
+use Rattle.codec.proofs.Tests.{left, right, T-true, true-T}
 use Rattle.machine.specs.Codes.{threeRates, twoRates}
-use Rattle.edition.specs.Edition.{marked, ratesOf, startOf}
+use Rattle.edition.specs.Edition.{marked, ratesOf, startOf, markAt}
 
 module _ (s : List ℕ) where
   pub too-short : length s < 2 → false ≡ marked s
@@ -47,3 +48,15 @@ module _ (s : List ℕ) where
       by-length : (b : Bool) → ltb (length s) 2 ≡ b → startOf s ≤ length s
       by-length true e = omega (arith, old-start (sym (too-short (ltb-true (length s) 2 e))))
       by-length false e = omega (arith, ltb-false (length s) 2 e, at-most-two (marked s) refl)
+
+  -- behind the very start there is no mark
+  pub no-mark : (at : ℕ) → 0 < at → markAt s at ≡ false
+  unfolding markAt
+  no-mark at h = rw (ne-eqb at 0 (λ e. omega arith))
+
+  -- the mark is at the very start, and two bytes are there
+  pub at-mark : (at : ℕ) → markAt s at ≡ true → (at ≡ 0) × (marked s ≡ true)
+  unfolding markAt
+  at-mark at e =
+      let t : T (eqb at 0 && marked s) = true-T _ e in
+      (eqb→eq at 0 (left (eqb at 0) (marked s) t), T-true (marked s) (right (eqb at 0) (marked s) t))

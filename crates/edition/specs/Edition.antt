@@ -31,3 +31,7 @@ ratesOf recording = if marked recording then twoRates else threeRates
 -- where its events begin: behind the mark, which writes no answer
 unfoldable pub startOf : List ℕ → ℕ
 startOf recording = if marked recording then markSize else 0
+
+-- the mark begins at this place: it does at the very start alone
+unfoldable pub markAt : List ℕ → ℕ → Bool
+markAt recording at = eqb at 0 && marked recording

@@ -1,6 +1,6 @@
 // The edition of a recording: one that begins with event 0 and the number 2 takes the rates of now, any other the old ones.
 ghost use mathlib.Core.Path.{_≡_};
-ghost use Rattle.edition.specs.Edition.{marked, startOf};
+ghost use Rattle.edition.specs.Edition.{marked, startOf, markAt};
 
 // The event that says an edition, the one edition that it may say, and the bytes of both.
 pub const EVENT: u8 = 0;
@@ -24,4 +24,11 @@ pub fn start_of(recording: &[u8]) -> usize
     ensures { λ r. ⌜ r ≡ startOf (now (recording .entry)) ⌝ }
 {
     if is_marked(recording) { MARK } else { 0 }
+}
+
+// Is the mark at this place of a recording?
+pub fn is_mark(recording: &[u8], at: usize) -> bool
+    ensures { λ r. ⌜ r ≡ markAt (now (recording .entry)) at ⌝ }
+{
+    (at == 0) & is_marked(recording)
 }

@@ -2,6 +2,7 @@
 use Prim.Native.Nat.{ℕ, _-_}
 use mathlib.Core.Path.{_≡_, refl, sym, ap, _∙_, subst}
 use mathlib.Core.Option.{Option, none, some}
+use mathlib.Core.Bool.{Bool, true, false}
 use mathlib.Core.List.{List}
 use lib.Dec.{T}
 use lib.ListN.{length, drop}
@@ -10,6 +11,7 @@ use Rattle.codec.proofs.Lists.{all-take, all-drop}
 use Rattle.machine.specs.Device as machine
 use Rattle.layout.specs.Reach.{Bytes}
 use Rattle.number.specs.Place.{Written}
+use Rattle.edition.specs.Edition.{markAt}
 use Rattle.events.specs.declared.Plain.{Plain}
 use Rattle.events.specs.declared.Plain.the-variants as plain
 use Rattle.events.specs.declared.Giving.{Giving}
@@ -20,7 +22,7 @@ use Rattle.events.specs.declared.Found.{Found}
 use Rattle.events.specs.declared.Found.the-variants as found
 use Rattle.events.specs.Events.{readEvent}
 use Rattle.events.specs.Found.{between, plainOf, givingOf, eventOf, foundOf, EventThere, FoundThere, ReadsEvent}
-use Rattle.playing.specs.Step.{Answered, TurnedAs, Turned}
+use Rattle.playing.specs.Step.{Answered, TurnedAs, TurnedBy, Turned}
 
 -- ---- what an event lends is bytes where the recording is
 
@@ -67,10 +69,24 @@ module _ (s : List ℕ) (at : ℕ) (r : Found) (a : ReadsEvent s at r) where
 
 -- ---- how a turn is said
 module _ (rates s : List ℕ) (at : ℕ) (m : List ℕ) where
-  pub turned-bad : {buffer buffer′ : List ℕ} {place place′ : ℕ} → readEvent s at ≡ none → Written buffer place 255 place′ buffer′ → Turned rates s at m buffer place (length s) place′ m buffer′
-  unfolding Turned TurnedAs
+  pub turned-bad : {buffer buffer′ : List ℕ} {place place′ : ℕ} → readEvent s at ≡ none → Written buffer place 255 place′ buffer′ → TurnedAs rates (readEvent s at) s m buffer place (length s) place′ m buffer′
+  unfolding TurnedAs
   turned-bad {buffer} {buffer′} {place} {place′} q w = subst (λ (x : Option (machine.Event × ℕ)). TurnedAs rates x s m buffer place (length s) place′ m buffer′) (sym q) (refl, refl, w)
 
-  pub turned-good : {e : machine.Event} {buffer m′ buffer′ : List ℕ} {place next place′ : ℕ} → readEvent s at ≡ some (e, next) → Bytes e → Answered rates e m buffer place place′ m′ buffer′ → Turned rates s at m buffer place next place′ m′ buffer′
-  unfolding Turned TurnedAs
+  pub turned-good : {e : machine.Event} {buffer m′ buffer′ : List ℕ} {place next place′ : ℕ} → readEvent s at ≡ some (e, next) → Bytes e → Answered rates e m buffer place place′ m′ buffer′ → TurnedAs rates (readEvent s at) s m buffer place next place′ m′ buffer′
+  unfolding TurnedAs
   turned-good {e} {buffer} {m′} {buffer′} {place} {next} {place′} q b a = subst (λ (x : Option (machine.Event × ℕ)). TurnedAs rates x s m buffer place next place′ m′ buffer′) (sym q) (refl, b, a)
+
+  pub turned-mark : (buffer : List ℕ) (place : ℕ) → markAt s at ≡ true → Turned rates s at m buffer place 2 place m buffer
+  unfolding Turned TurnedBy
+  turned-mark buffer place e =
+      subst (λ (b : Bool). TurnedBy b rates s at m buffer place 2 place m buffer) (sym e) (record { behind = refl; here = refl; memory = refl; output = refl })
+
+  pub turned-event : (buffer m′ buffer′ : List ℕ) (place next place′ : ℕ) → markAt s at ≡ false
+      → TurnedAs rates (readEvent s at) s m buffer place next place′ m′ buffer′ → Turned rates s at m buffer place next place′ m′ buffer′
+  unfolding Turned TurnedBy
+  turned-event buffer m′ buffer′ place next place′ e w = subst (λ (b : Bool). TurnedBy b rates s at m buffer place next place′ m′ buffer′) (sym e) w
+
+-- the same set of rates
+pub with-rates : {rates rates′ m buffer m′ buffer′ : List ℕ} {e : machine.Event} {at next : ℕ} → rates ≡ rates′ → Answered rates′ e m buffer at next m′ buffer′ → Answered rates e m buffer at next m′ buffer′
+with-rates {rates} {rates′} {m} {buffer} {m′} {buffer′} {e} {at} {next} same a = subst (λ (r : List ℕ). Answered r e m buffer at next m′ buffer′) (sym same) a

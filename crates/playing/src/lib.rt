@@ -6,13 +6,14 @@ ghost use lib.ListN.{length};
 ghost use Rattle.codec.specs.Plain.{zeros};
 ghost use Rattle.recording_sizes.specs.Sizes.{most, beyond};
 ghost use Rattle.machine.specs.Limits.{recordSize};
-ghost use Rattle.machine.specs.Codes.{threeRates};
 ghost use Rattle.machine.specs.Channel.{takeNext};
 ghost use Rattle.machine.specs.Channel.{read as reads};
 ghost use Rattle.machine.specs.Device.{call};
 ghost use Rattle.layout.specs.Memory.{valid};
+ghost use Rattle.events.specs.Events.{readEvent};
 ghost use Rattle.events.specs.Found.{eventOf, EventThere};
-ghost use Rattle.playing.specs.Step.{Answered, Turned};
+ghost use Rattle.edition.specs.Edition.{ratesOf};
+ghost use Rattle.playing.specs.Step.{Answered, TurnedAs, Turned};
 use events::Event;
 use events::Found;
 
@@ -79,6 +80,19 @@ fn play(
     }
 }
 
+// Plays an event with the rates of its recording's edition.
+fn play_by_edition(mem: &mut [u8], recording: &[u8], e: Event, out: &mut [u8], at: usize) -> usize
+    requires { ⌜ T (valid (now mem)) × EventThere (now recording) e × (at + beyond ≤ length (now out)) ⌝ }
+    ensures { λ r. ⌜ Answered (ratesOf (now (recording .entry))) (eventOf (now (recording .entry)) e) (now (mem .entry)) (now (out .entry)) at r (now (mem .exit)) (now (out .exit)) ⌝ }
+{
+    if edition::is_marked(recording) {
+        let rates = can::RATES;
+        return play(mem, &rates, recording, e, out, at);
+    }
+    let rates = can::OLD_RATES;
+    play(mem, &rates, recording, e, out, at)
+}
+
 // Where an event leaves off: the place after it, and the place after its answer.
 pub struct Turn {
     pub next: usize,
@@ -86,9 +100,9 @@ pub struct Turn {
 }
 
 // Plays the event at a place of a recording; a bad one is answered as such, and ends the recording.
-pub fn play_at(mem: &mut [u8], recording: &[u8], at: usize, out: &mut [u8], place: usize) -> Turn
+fn play_event(mem: &mut [u8], recording: &[u8], at: usize, out: &mut [u8], place: usize) -> Turn
     requires { ⌜ T (valid (now mem)) × (place + beyond ≤ length (now out)) ⌝ }
-    ensures { λ r. ⌜ Turned threeRates (now (recording .entry)) at (now (mem .entry)) (now (out .entry)) place (r .next) (r .place) (now (mem .exit)) (now (out .exit)) ⌝ }
+    ensures { λ r. ⌜ TurnedAs (ratesOf (now (recording .entry))) (readEvent (now (recording .entry)) at) (now (recording .entry)) (now (mem .entry)) (now (out .entry)) place (r .next) (r .place) (now (mem .exit)) (now (out .exit)) ⌝ }
 {
     let Found::Good(e, next) = event_reader::read_event(recording, at) else {
         let after = answers::put_number(out, place, recording_sizes::BAD_EVENT);
@@ -97,7 +111,20 @@ pub fn play_at(mem: &mut [u8], recording: &[u8], at: usize, out: &mut [u8], plac
             place: after,
         };
     };
-    let rates = can::RATES;
-    let after = play(mem, &rates, recording, e, out, place);
+    let after = play_by_edition(mem, recording, e, out, place);
     Turn { next, place: after }
+}
+
+// Plays what stands at a place of a recording: the mark of its edition, which writes no answer, or an event.
+pub fn play_at(mem: &mut [u8], recording: &[u8], at: usize, out: &mut [u8], place: usize) -> Turn
+    requires { ⌜ T (valid (now mem)) × (place + beyond ≤ length (now out)) ⌝ }
+    ensures { λ r. ⌜ Turned (ratesOf (now (recording .entry))) (now (recording .entry)) at (now (mem .entry)) (now (out .entry)) place (r .next) (r .place) (now (mem .exit)) (now (out .exit)) ⌝ }
+{
+    if edition::is_mark(recording, at) {
+        return Turn {
+            next: edition::MARK,
+            place,
+        };
+    }
+    play_event(mem, recording, at, out, place)
 }

@@ -5,8 +5,8 @@ use mathlib.Core.List.{List, _++_}
 use native.Mathlib.Omega.{arith}
 use borrow.Author.Tests.{lt-ltb, le-ltb}
 use lib.ListN.{length, drop}
-use Rattle.machine.specs.Codes.{threeRates}
 use Rattle.machine.specs.Device.{powerOn}
+use Rattle.edition.specs.Edition.{ratesOf, startOf}
 use Rattle.number.specs.Number.{groups, bytesOf}
 use Rattle.number.specs.Place.{Written}
 use Rattle.recording.specs.Replay.{badEvent, played, output, roomFor, leaves, replayed}
@@ -31,11 +31,11 @@ module _ (s out : List ℕ) {room : ℕ} (is : room ≡ roomFor s) where
 
   module _ (enough : room ≤ length out) where
     -- what was written at the buffer's start is the output
-    whole : {n : ℕ} {out′ : List ℕ} → Put out 0 (output threeRates s) n out′ → leaves 0x00 n out′ ≡ replayed s out
+    whole : {n : ℕ} {out′ : List ℕ} → Put out 0 (output s) n out′ → leaves 0x00 n out′ ≡ replayed s out
     unfolding replayed
     whole {n} {out′} p =
-        let z : 0 + length (output threeRates s) ≡ length (output threeRates s) = omega arith in
-        ap₂ (λ (k : ℕ) (b : List ℕ). leaves 0x00 k b) (p .ends ∙ z) (p .holds ∙ ap (λ (k : ℕ). output threeRates s ++ drop k out) z)
+        let z : 0 + length (output s) ≡ length (output s) = omega arith in
+        ap₂ (λ (k : ℕ) (b : List ℕ). leaves 0x00 k b) (p .ends ∙ z) (p .holds ∙ ap (λ (k : ℕ). output s ++ drop k out) z)
         ∙ sym (rw (le-ltb (length out) (roomFor s) (omega arith)))
 
     -- a recording that is too long
@@ -53,6 +53,6 @@ module _ (s out : List ℕ) {room : ℕ} (is : room ≡ roomFor s) where
       pub all-fits : perByte * length s + beyond ≤ length out
       all-fits = omega (arith, short-room s short)
 
-      pub all-whole : {n : ℕ} {out′ : List ℕ} → Put out 0 (played threeRates (length s) powerOn s 0) n out′ → leaves 0x00 n out′ ≡ replayed s out
+      pub all-whole : {n : ℕ} {out′ : List ℕ} → Put out 0 (played (ratesOf s) (length s) powerOn s (startOf s)) n out′ → leaves 0x00 n out′ ≡ replayed s out
       unfolding output
       all-whole p = whole (put-same (sym (rw (le-ltb 32768 (length s) short))) p)

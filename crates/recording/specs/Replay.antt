@@ -8,8 +8,8 @@ use lib.ListN.{length, drop}
 use Rattle.codec.specs.Plain.{if_then_else_}
 use Rattle.recording_sizes.specs.Sizes.{longest, perByte, beyond, badNumber, badSize}
 use Rattle.number.specs.Number.{bytesOf}
-use Rattle.machine.specs.Codes.{threeRates}
 use Rattle.machine.specs.Device.{Device, powerOn, Event, step}
+use Rattle.edition.specs.Edition.{ratesOf, startOf}
 use Rattle.events.specs.Events.{readEvent}
 use Rattle.answers.specs.Output.{answerBytes}
 
@@ -29,9 +29,12 @@ played rates zero d recording at = []
 played rates (suc turns) d recording at =
     if leb (length recording) at then [] else replies rates (readEvent recording at) d (λ e next. played rates turns e recording next)
 
--- THE OUTPUT, from power-on, with a set of rates. A recording of more than 32,768 bytes counts as a bad event
-unfoldable pub output : List ℕ → List ℕ → List ℕ
-output rates recording = if ltb longest (length recording) then badEvent else played rates (length recording) powerOn recording 0
+-- THE OUTPUT, from power-on, with the rates of the recording's edition, from its first event on: its mark writes no answer. A recording of more than
+-- 32,768 bytes, the mark's among them, counts as a bad event
+unfoldable pub output : List ℕ → List ℕ
+output recording =
+    if ltb longest (length recording) then badEvent
+    else played (ratesOf recording) (length recording) powerOn recording (startOf recording)
 
 -- ---- into a lent buffer
 
@@ -52,4 +55,4 @@ leaves c n b = record { code = c; size = n; buffer = b }
 unfoldable pub replayed : List ℕ → List ℕ → Replayed
 replayed recording buffer =
     if ltb (length buffer) (roomFor recording) then leaves 0x04 0 buffer
-    else leaves 0x00 (length (output threeRates recording)) (output threeRates recording ++ drop (length (output threeRates recording)) buffer)
+    else leaves 0x00 (length (output recording)) (output recording ++ drop (length (output recording)) buffer)

@@ -5,8 +5,8 @@ ghost use lib.ListN.{length};
 ghost use Rattle.codec.specs.Plain.{zeros};
 ghost use Rattle.recording_sizes.specs.Sizes.{perByte, beyond};
 ghost use Rattle.layout.specs.Sizes.{memorySize};
-ghost use Rattle.machine.specs.Codes.{threeRates};
 ghost use Rattle.machine.specs.Device.{powerOn};
+ghost use Rattle.edition.specs.Edition.{ratesOf, startOf};
 ghost use Rattle.answers.specs.Put.{Put};
 ghost use Rattle.recording.specs.Replay.{leaves, played, roomFor, replayed};
 use reader::Reader;
@@ -17,10 +17,11 @@ pub struct Played {
     pub length: usize,
 }
 
-// Plays a recording on a memory of zeros, event by event, to its end or a bad event: a reader moves through it. Gives the length of the output.
+// Plays a recording on a memory of zeros, behind its mark if it has one, event by event, to its end or a bad event: a reader moves through it.
+// Gives the length of the output.
 fn play_all(mem: &mut [u8], recording: &[u8], out: &mut [u8]) -> usize
     requires { ⌜ (now mem ≡ zeros memorySize) × (perByte * length (now recording) + beyond ≤ length (now out)) ⌝ }
-    ensures { λ r. ⌜ Put (now (out .entry)) 0 (played threeRates (length (now (recording .entry))) powerOn (now (recording .entry)) 0) r (now (out .exit)) ⌝ }
+    ensures { λ r. ⌜ Put (now (out .entry)) 0 (played (ratesOf (now (recording .entry))) (length (now (recording .entry))) powerOn (now (recording .entry)) (startOf (now (recording .entry)))) r (now (out .exit)) ⌝ }
 {
     let mut reader = Reader::new(recording, 0);
     let mut place = 0;

@@ -1,27 +1,24 @@
 -- `playing::play_at` meets its contract. Assumes nothing.
-use native.Mathlib.Omega.{arith}
-use Rattle.codec.proofs.Lists.{bytes-of}
-use Rattle.machine.specs.Codes.{threeRates}
-use Rattle.number.proofs.Laws.{written-short}
-use Rattle.playing.proofs.Turning.{event-lends, read-bad, read-good, good-there, turned-bad, turned-good}
+use mathlib.Core.Path.{sym, _∙_}
 use borrow.Author.Needs.{needs}
+use Rattle.edition.specs.Edition.{ratesOf}
+use Rattle.playing.proofs.Turning.{turned-mark, turned-event}
 use Rattle.playing.proofs.play_at.Statement.{statement}
 use Rattle.playing.proofs.play_at.Tie as tie
 
-put-number-requires : tie.Need-put-number-requires
-put-number-requires c κs = omega (arith, written-short 255 .1, c .before .before .before .before .before .before .before .pre .1)
-
 returns : tie.Need-returns
-returns c = turned-bad threeRates (c .before .before .before .before .before .before .before .before .before .before .args .recording .now) (c .before .before .before .before .before .before .before .before .before .before .args .at) (c .before .before .before .before .before .before .before .before .before .before .args .mem .now) (read-bad (c .before .before .before .before .before .before .before .before .before .before .args .recording .now) (c .before .before .before .before .before .before .before .before .before .before .args .at) (c .before .before .before .before .before .before .read-event .result) (c .before .before .before .before .before .before .read-event .ensures) (c .before .before .before .before .enum-told .given .1)) (c .before .before .put-number .ensures)
-
-play-requires : tie.Need-play-requires
-play-requires c κs = (c .before .before .before .before .before .before .before .before .before .before .pre .0, good-there (c .before .before .before .before .before .before .before .before .before .before .args .recording .now) (c .before .before .before .before .before .before .before .before .before .before .args .at) (c .before .before .before .before .before .before .read-event .result) (c .before .before .before .before .before .before .read-event .ensures) (c .before .before .before .before .e .given .1), c .before .before .before .before .before .before .before .before .before .before .pre .1)
+returns c = turned-mark (ratesOf (c .before .before .before .before .before .args .recording .now)) (c .before .before .before .before .before .args .recording .now) (c .before .before .before .before .before .args .at) (c .before .before .before .before .before .args .mem .now) (c .before .before .before .before .before .args .out .now) (c .before .before .before .before .before .args .place) (sym (c .before .is-mark .ensures) ∙ c .if1 .taken)
 
 returns-2 : tie.Need-returns-2
-unfolding threeRates
-returns-2 c =
-    let s = c .before .before .before .before .before .before .before .before .before .before .before .before .before .before .before .args .recording .now in
-    turned-good threeRates s (c .before .before .before .before .before .before .before .before .before .before .before .before .before .before .before .args .at) (c .before .before .before .before .before .before .before .before .before .before .before .before .before .before .before .args .mem .now) (read-good s (c .before .before .before .before .before .before .before .before .before .before .before .before .before .before .before .args .at) (c .before .before .before .before .before .before .before .before .before .before .before .read-event .result) (c .before .before .before .before .before .before .before .before .before .before .before .read-event .ensures) (c .before .before .before .before .before .before .before .before .before .e .given .1)) (event-lends s (bytes-of s (λ i. c .before .before .before .before .before .before .before .before .before .before .before .before .before .shared-slice-known .given i .fits)) (c .before .before .before .before .before .before .before .before .before .e .given .0 .0)) (c .before .before .before .before .play .ensures)
+returns-2 c = turned-event (ratesOf (c .before .before .before .before .before .before .before .before .before .before .before .before .args .recording .now)) (c .before .before .before .before .before .before .before .before .before .before .before .before .args .recording .now) (c .before .before .before .before .before .before .before .before .before .before .before .before .args .at) (c .before .before .before .before .before .before .before .before .before .before .before .before .args .mem .now) (c .before .before .before .before .before .before .before .before .before .before .before .before .args .out .now) _ _ (c .before .before .before .before .before .before .before .before .before .before .before .before .args .place) _ _ (sym (c .before .before .before .before .before .before .before .before .is-mark .ensures) ∙ c .before .before .before .before .before .before .before .if1 .left) (c .before .before .before .before .play-event .ensures)
 
 pub play-at-spec : {M : Type 1} → statement M
-play-at-spec = tie.close (tie.spec (λ c κs. search needs) (λ c. search needs) (λ c. search needs) put-number-requires (λ c. search needs) returns (λ c. search needs) play-requires (λ c. search needs) (λ c. search needs) returns-2)
+play-at-spec =
+    tie.close
+    (tie.spec
+    (λ c κs. search needs)
+    returns
+    (λ c κs. search needs)
+    (λ c. search needs)
+    (λ c. search needs)
+    returns-2)

@@ -47,14 +47,14 @@ use denote.Triple.Spec.{Meets, tripleOf}
 use denote.Triple.Statement.{Contract, Triple}
 use denote.Triple.Table.{entered, cited}
 use denote.Triple.Walked.{says, needs, Stays, stay-none-slice, stay-slice, walkOf, Walks, ends-at, walked, goes-none-slice, goes-slice, walk-meets}
-use Rattle.machine.specs.Codes.{threeRates}
+use Rattle.edition.specs.Edition.{ratesOf}
 use Rattle.reader.specs.Reader.{readerAt}
 use Rattle.reader.specs.declared.Reader.{Reader}
 use Rattle.playing.specs.declared.Turn.{Turn}
 use Rattle.codec.specs.Plain.{zeros}
 use Rattle.layout.specs.Memory.{valid}
 use Rattle.recording.proofs.Playing.{same-memory}
-use Rattle.recording.proofs.Turning.{State, state, Stepped, Moving, begun-at, ended-at, room-at, out-length, Nearer, turn-at}
+use Rattle.recording.proofs.Turning.{edition-known, State, state, Stepped, Moving, begun-at, ended-at, room-at, out-length, Nearer, turn-at}
 use Rattle.recording.proofs.Again.{LentAgain, lends-again, comes-back}
 use Rattle.reader.proofs.Reader as T
 use Rattle.reader.proofs.Reader.Laws as T′
@@ -250,7 +250,7 @@ module _ {M : Type 1} (𝓤 : URA M) (H : Heap 𝓤) (A : Atoms 𝓤) (W : Given
     goes-one : Holds (valid (d .mem)) × (d .place + beyond ≤ length (d .out)) → ent 𝓤 (⋆ 𝓤 H A (Toks ∷ ‵ one-owns ∷ [])) (One 𝓤 H A mem run .pre to-one)
     goes-one needed = qed W (Toks ∷ ‵ one-owns ∷ []) ∵ says ! needed $ frame ! $ done !
 
-  exits : (d : State) → Moving threeRates (now s) o₀ 0 d → d .place < 2 ^ 64 → ent 𝓤 (⋆ 𝓤 H A (MemAt (d .mem) (length (d .mem)) ∷ ‵ (flft κ₁ q₁) ∷ OutAt (d .out) (length (d .out)) ∷ ‵ (flft κ₂ q₂) ∷ Token ∷ ‵ Own ∷ [])) (Post (vint w64 (d .place)))
+  exits : (d : State) → Moving (ratesOf (now s)) (now s) o₀ 0 d → d .place < 2 ^ 64 → ent 𝓤 (⋆ 𝓤 H A (MemAt (d .mem) (length (d .mem)) ∷ ‵ (flft κ₁ q₁) ∷ OutAt (d .out) (length (d .out)) ∷ ‵ (flft κ₂ q₂) ∷ Token ∷ ‵ Own ∷ [])) (Post (vint w64 (d .place)))
   exits d p fits =
       qed W (MemAt (d .mem) (length (d .mem)) ∷ ‵ (flft κ₁ q₁) ∷ OutAt (d .out) (length (d .out)) ∷ ‵ (flft κ₂ q₂) ∷ Token ∷ ‵ Own ∷ []) ∵
       suffices ! _ (ends-at 𝓤 H A f.ended stayed (f.clauses 𝓤 H A mem run) W (((κ₁, (κ, (κ₂, tt))), (q₁, (q, (q₂, tt))), tt, a, vals), tt) (vint w64 (d .place)) (d .place) (d .mem, (tt, (d .out, tt))) (same-memory m₀ (p .playing) (ok .0), (tt, (out-length (ok .1) p, tt)))) $ says ! (ended-at (ok .1) p) $
@@ -278,7 +278,7 @@ module _ {M : Type 1} (𝓤 : URA M) (H : Heap 𝓤) (A : Atoms 𝓤) (W : Given
           ∷ ‵ (fdies word l₀) ∷ ‵ (fdies mems l₁) ∷ ‵ (fdies bytes l₂) ∷ ‵ (fdies outs l₃) ∷ ‵ (fdies reader l₄) ∷ ‵ (fdies word l₅) ∷ ‵ (fdies S′.mir l₆) ∷ ‵ (fdies tyBool l₇) ∷ ‵ (fdies reader l₈) ∷ ‵ (fdies tyBool l₉) ∷ ‵ (fdies ptrE l₁₀) ∷ ‵ (fdies sliceE l₁₁) ∷ ‵ (fdies word l₁₂) ∷ ‵ (fdies ptrE l₁₃) ∷ ‵ (fdies sliceE l₁₄) ∷ ‵ (fdies reader l₁₅) ∷ []
 
       abbrev Fact : ℕ → State → Type 0
-      Fact t d = Moving threeRates (now s) o₀ t d
+      Fact t d = Moving (ratesOf (now s)) (now s) o₀ t d
 
       -- the invariant, where t bytes lie before the reader
       abbrev Inv : ℕ → SProp 𝓤
@@ -310,7 +310,7 @@ module _ {M : Type 1} (𝓤 : URA M) (H : Heap 𝓤) (A : Atoms 𝓤) (W : Given
         asked = (p .playing .ok, room-at (ok .1) p)
 
         -- a turn that plays one number
-        more : i < n → (X : SProp 𝓤) → ((d′ : State) → Stepped threeRates (now s) d d′ → ent 𝓤 (⋆ 𝓤 H A (At d′)) X) → ent 𝓤 (⋆ 𝓤 H A (At d)) (Wp 𝓤 H C Λ En mir′.turn-1 (afterTurn 𝓤 H X Left))
+        more : i < n → (X : SProp 𝓤) → ((d′ : State) → Stepped (ratesOf (now s)) (now s) d d′ → ent 𝓤 (⋆ 𝓤 H A (At d′)) X) → ent 𝓤 (⋆ 𝓤 H A (At d)) (Wp 𝓤 H C Λ En mir′.turn-1 (afterTurn 𝓤 H X Left))
         unfolding afterTurn
         more small X k =
             qed W (At d) ∵ exec ! C Λ En mir′.turn-1 (anyQ (afterTurn 𝓤 H X Left)) $
@@ -348,9 +348,9 @@ module _ {M : Type 1} (𝓤 : URA M) (H : Heap 𝓤) (A : Atoms 𝓤) (W : Given
             (and-then ! (load ! (from ! (stop !)) (look ! 11 refl)) (and-then ! (load ! (from ! (stop !)) (look ! 17 refl)) (and-then ! (load ! (from ! (stop !)) (look ! 12 refl)) (and-then ! (load ! (from ! (stop !)) (look ! 14 refl)) (and-then ! (load ! (from ! (stop !)) (look ! 5 refl)) (no-more !)))))) (λ u′.
             use1 W (later (some (λ (r : Turn). (Toks d ν ν′ δ δ′ ⊛ ‵ (S.the-row .own r (u′ ∷ []))) ⊛ raw (ensured 𝓤 H A one.ended (one.clauses 𝓤 H A mem run) (ν ∷ [], (κ, (ν′ ∷ [], tt))) (one-arg d ν ν′ δ δ′) tt r)))) (id⊢ 𝓤 _) $ await ! tt $ pick ! (λ r.
             -- what `play_at` ensures, at some last lists
-            split ! $ move ! (1 ∷ []) $ use1 W (some (λ (zs : List ℕ × (Unit {0} × (Unit {0} × (List ℕ × (Unit {0} × Unit {0}))))). ‵ (lasts one.ended (ν ∷ [], (κ, (ν′ ∷ [], tt))) (one-arg d ν ν′ δ δ′) zs) ⊛ raw (fact 𝓤 (Stepped threeRates (now s) d (state (zs .0) (zs .1 .1 .1 .0) (r .next) (r .place)))))) (id⊢ 𝓤 _) $ pick ! (λ zs.
+            split ! $ move ! (1 ∷ []) $ use1 W (some (λ (zs : List ℕ × (Unit {0} × (Unit {0} × (List ℕ × (Unit {0} × Unit {0}))))). ‵ (lasts one.ended (ν ∷ [], (κ, (ν′ ∷ [], tt))) (one-arg d ν ν′ δ δ′) zs) ⊛ raw (fact 𝓤 (Stepped (ratesOf (now s)) (now s) d (state (zs .0) (zs .1 .1 .1 .0) (r .next) (r .place)))))) (id⊢ 𝓤 _) $ pick ! (λ zs.
             let d′ : State = state (zs .0) (zs .1 .1 .1 .0) (r .next) (r .place) in
-            split ! $ move ! (1 ∷ []) $ heard ! (Stepped threeRates (now s) d d′) (λ e′. fsplit ! $ fsplit ! $ move ! (1 ∷ []) $ feqL ! (λ len. move ! (1 ∷ []) $ fsplit ! $ drop ! $ fsplit ! $ drop ! $ fsplit ! $ fsplit ! $ move ! (1 ∷ []) $ feqL ! (λ len′. move ! (1 ∷ []) $ drop ! $
+            split ! $ move ! (1 ∷ []) $ heard ! (Stepped (ratesOf (now s)) (now s) d d′) (λ e′. fsplit ! $ fsplit ! $ move ! (1 ∷ []) $ feqL ! (λ len. move ! (1 ∷ []) $ fsplit ! $ drop ! $ fsplit ! $ drop ! $ fsplit ! $ fsplit ! $ move ! (1 ∷ []) $ feqL ! (λ len′. move ! (1 ∷ []) $ drop ! $
             -- [out's last list; mem's; the tokens and the result; what the slice owns; what is kept of out; of mem; _4; …]
             move ! (2 ∷ []) $ split ! $ move ! (1 ∷ []) $ peeks ! S.the-row (Is S.the-row) (shows 𝓤 H A S.the-row) r (u′ ∷ []) (λ is′.
             let fields = LL.owed S.the-type S′.the-laws r (u′ ∷ []) is′ in
@@ -409,7 +409,7 @@ module _ {M : Type 1} (𝓤 : URA M) (H : Heap 𝓤) (A : Atoms 𝓤) (W : Given
       turns-at (suc t) d p =
           let e = p .place-is in
           more (suc t) d p (omega arith) (Below (suc t)) (λ d′ w.
-          let near : Nearer threeRates (now s) o₀ (suc t) d′ = turn-at (λ r t. t) (ok .1) p (omega arith) w in
+          let near : Nearer (ratesOf (now s)) (now s) o₀ (suc t) d′ = turn-at (edition-known (now s)) (ok .1) p (omega arith) w in
           let c : ℕ = near .left′ in
           via 𝓤 (Inv c) (inv c d′ (near .moving)) (via 𝓤 (guard 𝓤 (c < suc t) (Inv c)) (guardI 𝓤 (c < suc t) (Inv c) (near .fewer)) (exI 𝓤 (λ (u : ℕ). guard 𝓤 (u < suc t) (Inv u)) c)))
 
@@ -417,7 +417,7 @@ module _ {M : Type 1} (𝓤 : URA M) (H : Heap 𝓤) (A : Atoms 𝓤) (W : Given
       turns t = exE 𝓤 (λ (d : State). guard 𝓤 (Fact t d) (⋆ 𝓤 H A (At d))) (λ d. guardE 𝓤 (Fact t d) (⋆ 𝓤 H A (At d)) (λ p. turns-at t d p))
 
       loops : ent 𝓤 (⋆ 𝓤 H A (At (state m₀ o₀ 0 0))) (Wp 𝓤 H C Λ En (loop mir′.turn-1) Left)
-      loops = via 𝓤 (Inv n) (inv n (state m₀ o₀ 0 0) (begun-at threeRates (now s) m₀ o₀ (ok .0))) (loop-rule 𝓤 H (W .laws) 𝓣 _<_ (Nat·lt-wfRel .wf) En mir′.turn-1 Left Inv turns n)
+      loops = via 𝓤 (Inv n) (inv n (state m₀ o₀ 0 0) (begun-at (ratesOf (now s)) (now s) m₀ o₀ (ok .0))) (loop-rule 𝓤 H (W .laws) 𝓣 _<_ (Nat·lt-wfRel .wf) En mir′.turn-1 Left Inv turns n)
 
       -- the MIR from its start: the call of `new`
       abbrev Entry : List (Item 𝓤)
