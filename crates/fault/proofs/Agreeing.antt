@@ -1,15 +1,16 @@
 -- What is looked at agrees with what is read, part by part, for each event and for a recording. Assumes nothing.
 use Prim.Native.Nat.{ℕ, zero, suc, _+_, _*_, _≤_, _<_}
-use mathlib.Core.Bool.{Bool, true, false, _||_, true≢false}
+use mathlib.Core.Bool.{Bool, true, false, true≢false}
 use mathlib.Core.List.{List, [], _∷_}
 use mathlib.Core.Logic.{_⊎_, inl, inr, ⊎-elim}
 use mathlib.Core.Option.{Option, none, some, Option·map, bind}
 use mathlib.Core.Path.{_≡_, refl, sym, ap, _∙_, subst}
 use native.Mathlib.Omega.{arith}
-use borrow.Author.Tests.{le-leb, ltb-true, ltb-false}
-use lib.Dec.{leb, ltb}
+use borrow.Author.Tests.{le-leb, ltb-true, ltb-false, eq-eqb}
+use lib.Dec.{leb, ltb, eqb, eqb→eq}
 use lib.ListN.{length, getD, take, drop}
 use Rattle.codec.specs.Plain.{if_then_else_, zeros}
+use Rattle.codec.proofs.Tests.{true-T}
 use Rattle.machine.specs.Limits.{recordSize}
 use Rattle.machine.specs.Cases.{_&_}
 use Rattle.machine.specs.Channel.{disconnect, startFilter, stopFilter, startPeriodic, stopPeriodic, write, read, takeNext, sent, clear, getParameter, setParameter}
@@ -17,10 +18,11 @@ use Rattle.machine.specs.Device.{Event, connect, call, frame, advance, close}
 use Rattle.number.specs.Number as numbers
 use Rattle.number.specs.Number.{front, shortest}
 use Rattle.number.specs.Place.{answer, numberAt}
+use Rattle.edition.specs.Edition.{startOf}
 use Rattle.events.specs.Events.{Reads, _>>=_, done, bad, number, bytes, recordIn, atMost64, arguments, argumentsOf, readEvent}
 use Rattle.events.proofs.Reading.{number-ends, NoneUpTo, unknown}
 use Rattle.fault.specs.declared.Spot.{Spot}
-use Rattle.fault.specs.Fault.{spot, andThen, whyBad, numberThen, numberAfter, twoAfter, bytesFrom, bytesAfter, piecesFrom, piecesAfter, noMore, looks, argumentsAfter, kindThen, eventFault, fault, nothing, met, faultFrom, faultIn}
+use Rattle.fault.specs.Fault.{spot, andThen, whyBad, numberThen, numberAfter, twoAfter, bytesFrom, bytesAfter, piecesFrom, piecesAfter, noMore, looks, argumentsAfter, editionFault, kindThen, eventFault, fault, nothing, met, faultFrom, faultIn}
 use Rattle.fault.specs.Laws.{Agrees, EventsAgree, FaultsHaveReasons}
 use Rattle.fault.proofs.Parts.{stays}
 
@@ -197,41 +199,39 @@ all-agree =
     & tt
 
 -- a number that is an event's: 1 to 16
-right-false : (a b : Bool) → (a || b) ≡ false → b ≡ false
-right-false true b e = absurd (true≢false e)
-right-false false b e = e
-
-arguments-agree : (kind : ℕ) → (ltb kind 1 || ltb 16 kind) ≡ false → Steps (argumentsOf kind) (argumentsAfter kind)
+arguments-agree : (kind : ℕ) → (kind ≡ 0 → ⊥) → kind ≤ 16 → Steps (argumentsOf kind) (argumentsAfter kind)
 unfolding argumentsOf argumentsAfter arguments looks
-arguments-agree zero e = absurd (true≢false e)
-arguments-agree (suc k) e =
-    let h : suc k ≤ 16 = ltb-false 16 (suc k) (right-false (ltb (suc k) 1) (ltb 16 (suc k)) e) in
-    both-at (drop 1 arguments) (drop 1 looks) all-agree k (omega arith)
+arguments-agree zero n h = absurd (n refl)
+arguments-agree (suc k) n h = both-at (drop 1 arguments) (drop 1 looks) all-agree k (omega arith)
 
 -- and one that is none
 none-up : (n kind : ℕ) → (kind ≡ 0) ⊎ (n < kind) → NoneUpTo n kind
 none-up zero kind h = tt
 none-up (suc n) kind h = (none-up n kind (⊎-elim inl (λ (l : suc n < kind). inr (omega arith)) h), λ e. ⊎-elim (λ (z : kind ≡ 0). omega arith) (λ (l : suc n < kind). omega arith) h)
 
-outside : (kind : ℕ) → (ltb kind 1 || ltb 16 kind) ≡ true → (kind ≡ 0) ⊎ (16 < kind)
-outside kind = go (ltb kind 1) refl
+-- event 0 always has a reason
+edition-bad : (s : List ℕ) (at next : ℕ) → editionFault s at next .reason ≡ 0 → ⊥
+unfolding editionFault numberThen numberAt answer
+edition-bad s at next = by-place (eqb at 0) (numbers.numberIn (drop next s))
   where
-    go : (t : Bool) → ltb kind 1 ≡ t → (t || ltb 16 kind) ≡ true → (kind ≡ 0) ⊎ (16 < kind)
-    go true q e = inl (let h : kind < 1 = ltb-true kind 1 q in omega arith)
-    go false q e = inr (ltb-true 16 kind e)
+    by-place : (b : Bool) (o : Option numbers.Found) → (if b then numberThen s next (λ edition after. spot 8 next) (answer next o) else spot 7 at) .reason ≡ 0 → ⊥
+    by-place true none = why-not (front (drop next s))
+    by-place true (some f) = λ e. omega arith
+    by-place false o = λ e. omega arith
 
 -- AN EVENT IS GOOD, and ends there, exactly where the reader of events takes it
 pub events-agree : EventsAgree
 unfolding readEvent _>>=_ bind number eventFault numberThen numberAt answer kindThen
 events-agree s at = go (numbers.numberIn (drop at s))
   where
-    kinds : (kind next : ℕ) (t : Bool) → (ltb kind 1 || ltb 16 kind) ≡ t → Agrees (argumentsOf kind s next) (if t then spot 5 at else argumentsAfter kind s (spot 0 next))
-    kinds kind next true e = rw (← unknown s next kind (none-up 16 kind (outside kind e))) (λ z. omega arith)
-    kinds kind next false e = arguments-agree kind e .agrees s next
+    kinds : (kind next : ℕ) (z t : Bool) → eqb kind 0 ≡ z → ltb 16 kind ≡ t → Agrees (argumentsOf kind s next) (if z then editionFault s at next else if t then spot 5 at else argumentsAfter kind s (spot 0 next))
+    kinds kind next true t z e = rw (← unknown s next kind (none-up 16 kind (inl (eqb→eq kind 0 (true-T _ z))))) (edition-bad s at next)
+    kinds kind next false true z e = rw (← unknown s next kind (none-up 16 kind (inr (ltb-true 16 kind e)))) (λ z. omega arith)
+    kinds kind next false false z e = arguments-agree kind (λ k. true≢false (sym (eq-eqb kind 0 k) ∙ z)) (ltb-false 16 kind e) .agrees s next
 
     go : (o : Option numbers.Found) → Agrees (bind {A = ℕ × ℕ} (Option·map (λ f. (f .value, at + f .size)) o) (λ r. argumentsOf (r .0) s (r .1))) (numberThen s at (kindThen s at) (answer at o))
     go none = why-not (front (drop at s))
-    go (some f) = kinds (f .value) (at + f .size) (ltb (f .value) 1 || ltb 16 (f .value)) refl
+    go (some f) = kinds (f .value) (at + f .size) (eqb (f .value) 0) (ltb 16 (f .value)) refl refl
 
 -- ---- a recording
 
@@ -257,6 +257,6 @@ pub faults-have-reasons : FaultsHaveReasons
 unfolding faultIn
 faults-have-reasons s e = go (ltb 32768 (length s)) e
   where
-    go : (t : Bool) → (if t then fault 6 0 0 32768 else faultFrom (length s) s 0 0) .reason ≡ 0 → (if t then fault 6 0 0 32768 else faultFrom (length s) s 0 0) ≡ nothing
+    go : (t : Bool) → (if t then fault 6 0 0 32768 else faultFrom (length s) s 0 (startOf s)) .reason ≡ 0 → (if t then fault 6 0 0 32768 else faultFrom (length s) s 0 (startOf s)) ≡ nothing
     go true e = absurd (omega arith)
-    go false e = faults-from (length s) s 0 0 e
+    go false e = faults-from (length s) s 0 (startOf s) e

@@ -4,9 +4,10 @@ use mathlib.Core.Path.{refl}
 use Rattle.number.specs.Number.{front, joined, highest, shortest, taken, numberIn}
 use Rattle.number.specs.Place.{answer, numberAt}
 use Rattle.events.specs.Events.{_>>=_, done, bad, number, bytes, recordIn, atMost64, arguments, argumentsOf, readEvent}
-use Rattle.fault.specs.Fault.{andThen, whyBad, numberThen, numberAfter, twoAfter, bytesFrom, bytesAfter, piecesFrom, piecesAfter, noMore, looks, argumentsAfter, kindThen, eventFault, met, faultFrom, faultIn}
+use Rattle.edition.specs.Edition.{marked, startOf}
+use Rattle.fault.specs.Fault.{andThen, whyBad, numberThen, numberAfter, twoAfter, bytesFrom, bytesAfter, piecesFrom, piecesAfter, noMore, looks, argumentsAfter, editionFault, kindThen, eventFault, met, faultFrom, faultIn}
 use Rattle.fault.specs.Cases.{CasesHold}
 
 pub cases-hold : CasesHold
-unfolding front joined highest shortest taken numberIn bind answer numberAt _>>=_ done bad number bytes recordIn atMost64 arguments argumentsOf readEvent andThen whyBad numberThen numberAfter twoAfter bytesFrom bytesAfter piecesFrom piecesAfter noMore looks argumentsAfter kindThen eventFault met faultFrom faultIn
+unfolding marked startOf front joined highest shortest taken numberIn bind answer numberAt _>>=_ done bad number bytes recordIn atMost64 arguments argumentsOf readEvent andThen whyBad numberThen numberAfter twoAfter bytesFrom bytesAfter piecesFrom piecesAfter noMore looks argumentsAfter editionFault kindThen eventFault met faultFrom faultIn
 cases-hold = refl

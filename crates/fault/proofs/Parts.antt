@@ -1,18 +1,18 @@
 -- One part of an event after another: what was wrong stays so, what is good is looked at further. Assumes nothing.
 use Prim.Native.Nat.{ℕ, zero, suc, _+_, _*_, _≤_, _<_}
-use mathlib.Core.Bool.{Bool, true, false, _||_}
+use mathlib.Core.Bool.{Bool, true, false}
 use mathlib.Core.List.{List}
 use mathlib.Core.Path.{_≡_, refl, sym, ap, _∙_}
 use native.Mathlib.Omega.{arith}
-use borrow.Author.Tests.{leb-true, leb-false, le-leb, lt-leb, ne-eqb, eq-eqb}
-use lib.Dec.{leb, ltb}
+use borrow.Author.Tests.{leb-true, leb-false, le-leb, lt-leb, ne-eqb, eq-eqb, lt-ltb, le-ltb}
+use lib.Dec.{leb}
 use lib.ListN.{length, drop, getD, List·getD-eq-default}
 use Rattle.number.specs.declared.Number.{Number}
 use Rattle.number.specs.declared.Number.the-variants.{Value, Bad}
 use Rattle.number.specs.Number.{front}
 use Rattle.number.specs.Place.{numberAt}
 use Rattle.fault.specs.declared.Spot.{Spot}
-use Rattle.fault.specs.Fault.{spot, andThen, whyBad, numberThen, bytesFrom, bytesAfter, piecesFrom, noMore, looks, argumentsAfter, kindThen}
+use Rattle.fault.specs.Fault.{spot, andThen, whyBad, numberThen, bytesFrom, bytesAfter, piecesFrom, noMore, looks, argumentsAfter, editionFault, kindThen}
 use Rattle.events.proofs.Reading.{NoneUpTo}
 
 module _ (look : ℕ → Spot) (before : Spot) where
@@ -55,13 +55,28 @@ module _ (unit : ℕ) (s : List ℕ) (at n next : ℕ) where
 
 -- the number of an event, and its arguments
 module _ (s : List ℕ) (at kind next : ℕ) where
-  pub no-event : (ltb kind 1 || ltb 16 kind) ≡ true → spot 5 at ≡ kindThen s at kind next
+  pub an-edition : kind ≡ 0 → editionFault s at next ≡ kindThen s at kind next
   unfolding kindThen
-  no-event h = rw h
+  an-edition e = sym (rw (eq-eqb kind 0 e))
 
-  pub an-event : (ltb kind 1 || ltb 16 kind) ≡ false → argumentsAfter kind s (spot 0 next) ≡ kindThen s at kind next
-  unfolding kindThen
-  an-event h = rw h
+  module _ (n : kind ≡ 0 → ⊥) where
+    pub no-event : 16 < kind → spot 5 at ≡ kindThen s at kind next
+    unfolding kindThen
+    no-event h = sym (rw (ne-eqb kind 0 n, lt-ltb 16 kind h))
+
+    pub an-event : kind ≤ 16 → argumentsAfter kind s (spot 0 next) ≡ kindThen s at kind next
+    unfolding kindThen
+    an-event h = sym (rw (ne-eqb kind 0 n, le-ltb 16 kind h))
+
+-- event 0
+module _ (s : List ℕ) (at next : ℕ) where
+  pub elsewhere : (at ≡ 0 → ⊥) → spot 7 at ≡ editionFault s at next
+  unfolding editionFault
+  elsewhere n = sym (rw (ne-eqb at 0 n))
+
+  pub at-start : at ≡ 0 → numberThen s next (λ edition after. spot 8 next) (numberAt s next) ≡ editionFault s at next
+  unfolding editionFault
+  at-start e = sym (rw (eq-eqb at 0 e))
 
 -- the table's entry for a number
 pub entry : (s : List ℕ) (before : Spot) (k : ℕ) (look : List ℕ → Spot → Spot) → getD looks k noMore ≡ look → {kind : ℕ} → kind ≡ k → look s before ≡ argumentsAfter kind s before

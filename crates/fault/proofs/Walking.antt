@@ -7,6 +7,8 @@ use native.Mathlib.Omega.{arith}
 use borrow.Author.Tests.{le-leb, lt-leb, le-ltb, lt-ltb}
 use lib.ListN.{length}
 use Rattle.machine.specs.Device as machine
+use Rattle.edition.specs.Edition.{startOf}
+use Rattle.edition.proofs.Marked.{start-inside}
 use Rattle.events.specs.declared.Event.{Event}
 use Rattle.events.specs.declared.Found.{Found}
 use Rattle.events.specs.declared.Found.the-variants as found
@@ -22,17 +24,24 @@ pub record Walking (s : List ℕ) (at n : ℕ) : Type 0 where
   pub few : n ≤ at
   pub turns : ℕ
   pub enough : length s ≤ at + turns
-  pub right : faultFrom turns s n at ≡ faultFrom (length s) s 0 0
+  pub right : faultFrom turns s n at ≡ faultFrom (length s) s 0 (startOf s)
 
-pub begun : (s : List ℕ) → Walking s 0 0
-begun s = record { inside = omega arith; few = omega arith; turns = length s; enough = omega arith; right = refl }
+pub begun : (s : List ℕ) {at : ℕ} → at ≡ startOf s → Walking s at 0
+begun s {at} e =
+    record {
+      inside = omega (arith, start-inside s, e);
+      few = omega arith;
+      turns = length s;
+      enough = omega arith;
+      right = ap (λ (k : ℕ). faultFrom (length s) s 0 k) e;
+    }
 
 -- too long, or not
 pub too-long : (s : List ℕ) → 32768 < length s → fault 6 0 0 32768 ≡ faultIn s
 unfolding faultIn
 too-long s h = rw (lt-ltb 32768 (length s) h)
 
-pub not-long : (s : List ℕ) → length s ≤ 32768 → faultIn s ≡ faultFrom (length s) s 0 0
+pub not-long : (s : List ℕ) → length s ≤ 32768 → faultIn s ≡ faultFrom (length s) s 0 (startOf s)
 unfolding faultIn
 not-long s h = rw (le-ltb 32768 (length s) h)
 

@@ -1,6 +1,5 @@
 -- Where and why a recording is bad: the first event that `readEvent` refuses, and the first part of it that cannot be read. Assumes nothing.
 use Prim.Native.Nat.{ℕ, zero, suc, _+_, _*_}
-use mathlib.Core.Bool.{_||_}
 use mathlib.Core.List.{List, [], _∷_}
 use mathlib.Core.Option.{Option, none, some}
 use lib.Dec.{leb, ltb, eqb}
@@ -13,6 +12,7 @@ use Rattle.number.specs.declared.Number.{Number}
 use Rattle.number.specs.declared.Number.the-variants.{Value, Bad}
 use Rattle.number.specs.Number.{front, shortest}
 use Rattle.number.specs.Place.{numberAt}
+use Rattle.edition.specs.Edition.{editionEvent, startOf}
 use Rattle.events.specs.Events.{readEvent}
 use Rattle.fault.specs.declared.Spot.{Spot}
 use Rattle.fault.specs.declared.Fault.{Fault}
@@ -39,6 +39,12 @@ unknown = 5
 
 abbrev pub tooLong : ℕ
 tooLong = 6
+
+abbrev pub misplaced : ℕ
+misplaced = 7
+
+abbrev pub otherEdition : ℕ
+otherEdition = 8
 
 -- ---- one part of an event after another, as long as all is good
 
@@ -109,9 +115,17 @@ looks =
 unfoldable pub argumentsAfter : ℕ → List ℕ → Spot → Spot
 argumentsAfter kind = getD looks kind noMore
 
+-- event 0, which is none behind the mark: it stands elsewhere than at the very start, or says no edition or another than the mark's
+unfoldable pub editionFault : List ℕ → ℕ → ℕ → Spot
+editionFault recording at next =
+    if eqb at 0 then numberThen recording next (λ edition after. spot otherEdition next) (numberAt recording next) else spot misplaced at
+
 -- its number, 1 to 16, and its arguments
 unfoldable pub kindThen : List ℕ → ℕ → ℕ → ℕ → Spot
-kindThen recording at kind next = if ltb kind 1 || ltb 16 kind then spot unknown at else argumentsAfter kind recording (spot good next)
+kindThen recording at kind next =
+    if eqb kind editionEvent then editionFault recording at next
+    else if ltb 16 kind then spot unknown at
+    else argumentsAfter kind recording (spot good next)
 
 -- AN EVENT: where it is good the place after it, else why it is bad, and where the part begins that is to blame
 unfoldable pub eventFault : List ℕ → ℕ → Spot
@@ -137,6 +151,6 @@ faultFrom zero recording n at = nothing
 faultFrom (suc turns) recording n at =
     if leb (length recording) at then nothing else met (readEvent recording at) recording n at (λ next. faultFrom turns recording (n + 1) next)
 
--- THE FAULT OF A RECORDING: its first bad event; one of more than 32,768 bytes is bad from there on
+-- THE FAULT OF A RECORDING: its first bad event behind its mark, which counts as none; one of more than 32,768 bytes is bad from there on
 unfoldable pub faultIn : List ℕ → Fault
-faultIn recording = if ltb longest (length recording) then fault tooLong 0 0 longest else faultFrom (length recording) recording 0 0
+faultIn recording = if ltb longest (length recording) then fault tooLong 0 0 longest else faultFrom (length recording) recording 0 (startOf recording)

@@ -2,7 +2,7 @@
 ghost use mathlib.Core.Path.{_≡_};
 ghost use Prim.Native.Nat.{_≤_};
 ghost use Rattle.machine.specs.Limits.{recordSize};
-ghost use Rattle.fault.specs.Fault.{whyBad, numberAfter, bytesAfter, piecesAfter, argumentsAfter, eventFault, faultIn};
+ghost use Rattle.fault.specs.Fault.{whyBad, numberAfter, bytesAfter, piecesAfter, argumentsAfter, editionFault, eventFault, faultIn};
 ghost use Rattle.number.specs.Number.{front};
 ghost use lib.ListN.{drop};
 use events::Found;
@@ -28,6 +28,12 @@ pub const UNKNOWN: u32 = 5;
 
 // The recording has more than 32,768 bytes.
 pub const TOO_LONG: u32 = 6;
+
+// Event 0 stands elsewhere than at the very start.
+pub const MISPLACED: u32 = 7;
+
+// Event 0 says an edition that there is not.
+pub const OTHER_EDITION: u32 = 8;
 
 // How far an event was looked at: where it is good so far, the place after that; else why it is not, and where the part begins that is to blame.
 pub struct Spot {
@@ -162,6 +168,26 @@ fn arguments(recording: &[u8], from: Spot, kind: u32) -> Spot
     }
 }
 
+// Why an event 0 is bad: it says an edition at the very start alone, and there its number is none or another than the mark's.
+fn edition_fault(recording: &[u8], at: usize, next: usize) -> Spot
+    ensures { λ r. ⌜ r ≡ editionFault (now (recording .entry)) at next ⌝ }
+{
+    if at != 0 {
+        return Spot {
+            reason: MISPLACED,
+            at,
+        };
+    }
+    let Number::Value { value: _, next: _ } = reader::read_number(recording, next) else {
+        let reason = why(recording, next);
+        return Spot { reason, at: next };
+    };
+    Spot {
+        reason: OTHER_EDITION,
+        at: next,
+    }
+}
+
 // Looks at the event at a place: where it is good the place after it, else why it is bad, and where the part begins that is to blame.
 pub fn event(recording: &[u8], at: usize) -> Spot
     ensures { λ r. ⌜ r ≡ eventFault (now (recording .entry)) at ⌝ }
@@ -170,7 +196,10 @@ pub fn event(recording: &[u8], at: usize) -> Spot
         let reason = why(recording, at);
         return Spot { reason, at };
     };
-    if (kind < 1) | (kind > 16) {
+    if kind == 0 {
+        return edition_fault(recording, at, next);
+    }
+    if kind > 16 {
         return Spot {
             reason: UNKNOWN,
             at,
@@ -183,7 +212,7 @@ pub fn event(recording: &[u8], at: usize) -> Spot
     arguments(recording, from, kind)
 }
 
-// Finds the first bad event of a recording, if it has one.
+// Finds the first bad event of a recording behind its mark, if it has one.
 pub fn find(recording: &[u8]) -> Fault
     ensures { λ r. ⌜ r ≡ faultIn (now (recording .entry)) ⌝ }
 {
@@ -195,7 +224,7 @@ pub fn find(recording: &[u8]) -> Fault
             at: recording_sizes::LONGEST,
         };
     }
-    let mut at = 0;
+    let mut at = edition::start_of(recording);
     let mut n = 0;
     while at < recording.len() {
         n += 1;

@@ -50,6 +50,18 @@ pub fn reason(fd: i32, recording: &[u8], spot: Spot) {
             number_at(recording, at) as u64,
             b"\n",
         ),
+        fault::MISPLACED => about(
+            fd,
+            b": event 0 at byte ",
+            at as u64,
+            b" is not at the very start, where an edition stands\n",
+        ),
+        fault::OTHER_EDITION => about(
+            fd,
+            b": there is no edition ",
+            number_at(recording, at) as u64,
+            b", only 2\n",
+        ),
         _ => number(fd, why, at),
     }
 }

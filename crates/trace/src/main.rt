@@ -10,7 +10,7 @@ use trace_words::part;
 use trace_words::text;
 
 // The code of an event that is answered by its code alone.
-fn plain_code(memory: &mut [u8; MEMORY], recording: &[u8], e: Plain) -> u32 {
+fn plain_code(memory: &mut [u8; MEMORY], rates: &[u32], recording: &[u8], e: Plain) -> u32 {
     match e {
         Plain::Disconnect(channel) => device::disconnect(memory, channel),
         Plain::Close => device::close(memory),
@@ -26,15 +26,17 @@ fn plain_code(memory: &mut [u8; MEMORY], recording: &[u8], e: Plain) -> u32 {
         Plain::StopPeriodic(channel, n) => device::stop_periodic(memory, channel, n),
         Plain::Sent(channel) => device::sent(memory, channel),
         Plain::Clear(channel, kind) => device::clear(memory, channel, kind),
-        Plain::Set(channel, parameter, value) => device::set(memory, channel, parameter, value),
+        Plain::Set(channel, parameter, value) => {
+            device_channels::set_with(memory, rates, channel, parameter, value)
+        }
     }
 }
 
 // The answer to an event that is answered by a number too.
-fn answer(memory: &mut [u8; MEMORY], recording: &[u8], e: Giving) -> Answer {
+fn answer(memory: &mut [u8; MEMORY], rates: &[u32], recording: &[u8], e: Giving) -> Answer {
     match e {
         Giving::Connect(line, protocol, flags, rate) => {
-            device::connect(memory, line, protocol, flags, rate)
+            device_channels::connect_with(memory, rates, line, protocol, flags, rate)
         }
         Giving::StartFilter {
             channel,
@@ -76,15 +78,15 @@ fn take(memory: &mut [u8; MEMORY], channel: u32) {
 }
 
 // An event and its answer.
-fn event(memory: &mut [u8; MEMORY], recording: &[u8], e: Event) {
+fn event(memory: &mut [u8; MEMORY], rates: &[u32], recording: &[u8], e: Event) {
     match e {
         Event::Code(asked) => {
             trace_events::plain(recording, asked);
-            trace_events::coded(plain_code(memory, recording, asked));
+            trace_events::coded(plain_code(memory, rates, recording, asked));
         }
         Event::Number(asked) => {
             trace_events::giving(asked);
-            trace_events::numbered(recording, asked, answer(memory, recording, asked));
+            trace_events::numbered(recording, asked, answer(memory, rates, recording, asked));
         }
         Event::Write {
             channel,
@@ -107,11 +109,12 @@ fn bad(recording: &[u8], at: usize) {
     fault_words::reason(STDOUT_FILENO, recording, fault::event(recording, at));
 }
 
-// Shows the events of a recording, each with its answer, up to the end or a bad one. Each has a byte or more, so there are at most as many as bytes.
-fn show(recording: &[u8]) {
+// Shows the events of a recording behind its mark, each with its answer, up to the end or a bad one. Each has a byte or more, so there are at most
+// as many as bytes.
+fn show(recording: &[u8], rates: &[u32]) {
     let mut memory = [0u8; MEMORY];
     device::power_on(&mut memory);
-    let mut at = 0;
+    let mut at = edition::start_of(recording);
     let mut n = 0;
     while n < recording.len() {
         n += 1;
@@ -123,8 +126,18 @@ fn show(recording: &[u8]) {
             bad(recording, at);
             return;
         };
-        event(&mut memory, recording, e);
+        event(&mut memory, rates, recording, e);
         at = next;
+    }
+}
+
+// Says the edition of a recording, if it has one, and shows its events with the rates of it.
+fn by_edition(recording: &[u8]) {
+    if edition::is_marked(recording) {
+        text(b"edition 2: 250000 and 500000 bit/s\n");
+        show(recording, &can::RATES);
+    } else {
+        show(recording, &can::OLD_RATES);
     }
 }
 
@@ -135,7 +148,7 @@ fn whole(recording: &[u8]) {
     } else if recording.len() >= input::READ {
         text(b"more than 32768 bytes, which counts as a bad event\n");
     } else {
-        show(recording);
+        by_edition(recording);
     }
 }
 

@@ -2,7 +2,7 @@
 use mathlib.Core.Path.{_∙_}
 use borrow.Author.Needs.{needs}
 use Rattle.fault.specs.Fault.{kindThen, eventFault}
-use Rattle.fault.proofs.Parts.{number-good, number-bad, no-event, an-event}
+use Rattle.fault.proofs.Parts.{number-good, number-bad, an-edition, no-event, an-event}
 use Rattle.fault.proofs.event.Statement.{statement}
 use Rattle.fault.proofs.event.Tie as tie
 
@@ -12,11 +12,15 @@ returns c = number-bad _ _ (kindThen _ _) _ (c .before .before .before .read-num
 
 returns-2 : tie.Need-returns-2
 unfolding eventFault
-returns-2 c = no-event _ _ _ _ (c .if1 .taken) ∙ number-good _ _ (kindThen _ _) _ (c .before .before .before .before .read-number .ensures) (c .before .before .kind .given .1)
+returns-2 c = c .edition-fault .ensures ∙ an-edition _ _ _ _ (c .before .if1 .taken) ∙ number-good _ _ (kindThen _ _) _ (c .before .before .before .before .before .read-number .ensures) (c .before .before .before .kind .given .1)
 
 returns-3 : tie.Need-returns-3
 unfolding eventFault
-returns-3 c = c .arguments .ensures ∙ an-event _ _ _ _ (c .before .if1 .left) ∙ number-good _ _ (kindThen _ _) _ (c .before .before .before .before .before .read-number .ensures) (c .before .before .before .kind .given .1)
+returns-3 c = no-event _ _ _ _ (c .before .if1 .left) (c .if2 .taken) ∙ number-good _ _ (kindThen _ _) _ (c .before .before .before .before .before .read-number .ensures) (c .before .before .before .kind .given .1)
+
+returns-4 : tie.Need-returns-4
+unfolding eventFault
+returns-4 c = c .arguments .ensures ∙ an-event _ _ _ _ (c .before .before .if1 .left) (c .before .if2 .left) ∙ number-good _ _ (kindThen _ _) _ (c .before .before .before .before .before .before .read-number .ensures) (c .before .before .before .before .kind .given .1)
 
 pub event-spec : {M : Type 1} → statement M
 event-spec =
@@ -27,6 +31,8 @@ event-spec =
     (λ c. search needs)
     (λ c κs. search needs)
     returns
-    returns-2
     (λ c κs. search needs)
-    returns-3)
+    returns-2
+    returns-3
+    (λ c κs. search needs)
+    returns-4)

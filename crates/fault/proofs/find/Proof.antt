@@ -18,7 +18,7 @@ returns : tie.Need-returns Inv-loop μ-loop
 returns c = too-long (now (c .before .before .args .recording)) (c .if1 .taken)
 
 loop-holds : tie.Need-loop-holds Inv-loop μ-loop
-loop-holds c = (begun _, c .if1 .left)
+loop-holds c = (begun _ (c .start-of .ensures), c .before .if1 .left)
 
 add-n : tie.Need-add-n Inv-loop μ-loop
 add-n c = omega (arith, c .before .loop .inv .0 .few, c .before .loop .inv .0 .inside, c .before .loop .inv .1)
@@ -42,6 +42,7 @@ find-spec =
     Inv-loop
     μ-loop
     returns
+    (λ c κs. search needs)
     loop-holds
     add-n
     (λ c κs. search needs)

@@ -6,10 +6,10 @@ use Rattle.trace.proofs.show.Statement.{statement}
 use Rattle.trace.proofs.show.Tie as tie
 
 abbrev Inv-loop : tie.InvT-loop
-Inv-loop recording memory₀ at₀ n₀ memory at n = Unit {0}
+Inv-loop recording rates memory₀ at₀ n₀ memory at n = Unit {0}
 
 abbrev μ-loop : tie.MeasureT-loop
-μ-loop recording memory₀ at₀ n₀ memory at n = length recording - n
+μ-loop recording rates memory₀ at₀ n₀ memory at n = length recording - n
 
 pub show-spec : {M : Type 1} → statement M
 show-spec =
