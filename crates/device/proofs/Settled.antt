@@ -1,5 +1,5 @@
--- ANY TWO OUTCOMES OF A PUBLIC CALL ARE EQUAL: said of each of the 17 calls and of the look at the memory, over the very postcondition that the
--- function is proved to meet.
+-- ANY TWO OUTCOMES OF A PUBLIC CALL ARE EQUAL: said of each of the 17 calls, of connect and set with rates that are lent, and of the look at the
+-- memory, over the very postcondition that the function is proved to meet.
 -- An outcome is what the function returns and what it leaves in the memory and in a lent buffer. Assumes nothing.
 use mathlib.Core.Path.{sym, ap, _∙_}
 use Prim.Native.Nat.{ℕ}
@@ -13,10 +13,14 @@ use Rattle.validity.proofs.valid.Kinds as valid-kinds
 use Rattle.validity.proofs.valid.Reads as valid
 use Rattle.device_channels.proofs.connect.Kinds as connect-kinds
 use Rattle.device_channels.proofs.connect.Reads as connect
+use Rattle.device_channels.proofs.connect_with.Kinds as connect-with-kinds
+use Rattle.device_channels.proofs.connect_with.Reads as connect-with
 use Rattle.device_channels.proofs.get.Kinds as get-kinds
 use Rattle.device_channels.proofs.get.Reads as get
 use Rattle.device_channels.proofs.set.Kinds as set-kinds
 use Rattle.device_channels.proofs.set.Reads as set
+use Rattle.device_channels.proofs.set_with.Kinds as set-with-kinds
+use Rattle.device_channels.proofs.set_with.Reads as set-with
 use Rattle.device_channels.proofs.disconnect.Kinds as disconnect-kinds
 use Rattle.device_channels.proofs.disconnect.Reads as disconnect
 use Rattle.device_channels.proofs.clear.Kinds as clear-kinds
@@ -61,11 +65,17 @@ valid-settled κs a x y p q = ap (λ s. (s, x .1)) (p ∙ sym q)
 pub connect-settled : OneOutcome 1 connect-kinds.ps connect-kinds.r connect.Post
 connect-settled κs a x y p q = ap (λ (s : Result). (record { code = s .code; value = s .value }, (s .memory, x .1 .1))) (p ∙ sym q)
 
+pub connect-with-settled : OneOutcome 2 connect-with-kinds.ps connect-with-kinds.r connect-with.Post
+connect-with-settled κs a x y p q = ap (λ (s : Result). (record { code = s .code; value = s .value }, (s .memory, x .1 .1))) (p ∙ sym q)
+
 pub get-settled : OneOutcome 1 get-kinds.ps get-kinds.r get.Post
 get-settled κs a x y p q = ap (λ (s : Result). (record { code = s .code; value = s .value }, x .1)) (p ∙ sym q)
 
 pub set-settled : OneOutcome 1 set-kinds.ps set-kinds.r set.Post
 set-settled κs a x y p q = ap (λ (s : Result). (s .code, (s .memory, x .1 .1))) (p ∙ sym q)
+
+pub set-with-settled : OneOutcome 2 set-with-kinds.ps set-with-kinds.r set-with.Post
+set-with-settled κs a x y p q = ap (λ (s : Result). (s .code, (s .memory, x .1 .1))) (p ∙ sym q)
 
 pub disconnect-settled : OneOutcome 1 disconnect-kinds.ps disconnect-kinds.r disconnect.Post
 disconnect-settled κs a x y p q = ap (λ (s : Result). (s .code, (s .memory, x .1 .1))) (p ∙ sym q)
