@@ -41,7 +41,7 @@ extern "C" {
 
 /* The version of this header and of the archive built from the same sources. The first number changes when a program or a kept memory that was
  * good may be so no more, the second when something is added, the third with everything else. TRAWL_VERSION is for comparing. */
-#define TRAWL_VERSION_MAJOR 1
+#define TRAWL_VERSION_MAJOR 2
 #define TRAWL_VERSION_MINOR 0
 #define TRAWL_VERSION_PATCH 0
 #define TRAWL_VERSION (TRAWL_VERSION_MAJOR * 10000 + TRAWL_VERSION_MINOR * 100 + TRAWL_VERSION_PATCH)
@@ -78,7 +78,7 @@ extern "C" {
 #define TRAWL_ERR_CHANNEL_IN_USE 0x14u        /* the line's channel is already open */
 #define TRAWL_ERR_MSG_PROTOCOL_ID 0x15u       /* protocol field of a message is not 5 */
 #define TRAWL_ERR_INVALID_FILTER_ID 0x16u     /* filter type not 1 or 2; no filter of that number on this channel */
-#define TRAWL_ERR_INVALID_BAUDRATE 0x19u      /* connect: rate not 125,000, 250,000 or 500,000 */
+#define TRAWL_ERR_INVALID_BAUDRATE 0x19u      /* connect: rate not 250,000 or 500,000 */
 #define TRAWL_ERR_INVALID_DEVICE_ID 0x1Au     /* device memory of the wrong size, or not valid */
 
 /* Protocol, connection flags, filter types, parameters; RxStatus and TxFlags bits of a record. */
@@ -249,8 +249,8 @@ uint32_t trawl_power_on(uint8_t *memory, size_t memory_length);
 
 /* Opens the raw CAN channel of a line (0 to 3) and gives its number, the line plus 1. The new channel is empty: no filters, no periodics, nothing
  * queued, loopback 0.
- * Codes: 0x1A; 0x03 protocol is not 5; 0x06 a flag bit other than 0x100 and 0x800; 0x19 rate is not 125000, 250000 or 500000; 0x13 line over 3;
- * 0x14 the channel is open. */
+ * Codes: 0x1A; 0x03 protocol is not 5; 0x06 a flag bit other than 0x100 and 0x800; 0x19 rate is not 250000 or 500000 (125000 is retired);
+ * 0x13 line over 3; 0x14 the channel is open. */
 uint32_t trawl_connect(uint8_t *memory, size_t memory_length, uint32_t line, uint32_t protocol, uint32_t flags, uint32_t rate,
                        uint32_t *channel);
 
@@ -325,12 +325,13 @@ uint32_t trawl_sent(uint8_t *memory, size_t memory_length, uint32_t channel);
  * Codes: 0x1A; 0x02; 0x0F kind not 1 to 4. */
 uint32_t trawl_clear(uint8_t *memory, size_t memory_length, uint32_t channel, uint32_t kind);
 
-/* The value of DATA_RATE (1) or LOOPBACK (3). Writes nothing but the value.
+/* The value of DATA_RATE (1) or LOOPBACK (3). Writes nothing but the value. A kept memory may hold a channel at 125000 from before that rate was
+ * retired: it is valid, the channel runs on until it is disconnected or has another rate set, and so long this gives 125000.
  * Codes: 0x1A; 0x02; 0x01 another parameter. */
 uint32_t trawl_get(const uint8_t *memory, size_t memory_length, uint32_t channel, uint32_t parameter, uint32_t *value);
 
-/* A new value: DATA_RATE 125000, 250000 or 500000, LOOPBACK 0 or 1. Nothing else of the channel changes.
- * Codes: 0x1A; 0x02; 0x01 another parameter, whatever the value; 0x05 another value. */
+/* A new value: DATA_RATE 250000 or 500000, LOOPBACK 0 or 1. Nothing else of the channel changes.
+ * Codes: 0x1A; 0x02; 0x01 another parameter, whatever the value; 0x05 another value, 125000 too. */
 uint32_t trawl_set(uint8_t *memory, size_t memory_length, uint32_t channel, uint32_t parameter, uint32_t value);
 
 /* ---- TP2.0 telegrams (SAE J2819) ---- */
@@ -379,7 +380,11 @@ uint32_t trawl_time(uint8_t byte);
 
 /* Replays a recording from power-on into a buffer of at least TRAWL_REPLAY_ROOM(recording_length) bytes, else 0x04. Gives how many bytes the
  * output has; a bad event ends it with the number 255, and a recording of more than 32,768 bytes counts as one. The replay has a memory of its
- * own, TRAWL_MEMORY bytes on the stack. */
+ * own, TRAWL_MEMORY bytes on the stack.
+ *
+ * A recording that begins with the bytes 00 02 (event 0 and its edition, 2) is replayed with the rates that the calls take; one that doesn't is
+ * from before, and connect and set take 125000 in it as well. The two bytes have no answer and count in the 32,768. Event 0 anywhere else, or
+ * another edition, is a bad event. */
 uint32_t trawl_replay(const uint8_t *recording, size_t recording_length, uint8_t *out, size_t out_length, size_t *length);
 
 /* ---- J2534-1's names without the prefix ---- */

@@ -8,9 +8,9 @@
 #include "../twin/twin.h"
 #include "support.h"
 
-enum { REGION = (TRAWL_MEMORY - 4) / 4, EVENTS = 400 };
+enum { REGION = (TRAWL_MEMORY - 4) / 4, RATE = 5, EVENTS = 400 }; /* a channel's region, and where its rate lies in it */
 
-static unsigned long counted[KINDS + 1][0x20];
+static unsigned long counted[KINDS + 1][0x20], olds;
 
 /* the memory needs more room than a lent buffer has */
 static uint8_t core_room[GUARD + TRAWL_MEMORY + GUARD], twin_room[GUARD + TRAWL_MEMORY + GUARD];
@@ -66,6 +66,16 @@ static void power_on(void) {
 
 /* ---- random sequences on four channels ---- */
 
+/* a memory kept from before: this line's channel, if it is open, has the rate that no call takes any more */
+static void old_rate(uint32_t line) {
+    size_t region = 4 + line * REGION;
+    if (!core[region]) return;
+    trawl_store32(core + region + RATE, 125000);
+    memcpy(twin, core, TRAWL_MEMORY);
+    if (!trawl_valid(core, TRAWL_MEMORY)) fail("a memory that holds 125,000 is not valid", NULL, line);
+    olds++;
+}
+
 static void sequences(uint32_t rounds) {
     static event e;
     for (uint32_t r = 0; r < rounds; r++) {
@@ -78,6 +88,7 @@ static void sequences(uint32_t rounds) {
             if (chance(80)) both(&e, r);
         }
         for (uint32_t i = 0; i < EVENTS; i++) {
+            if (r % 2 && i % 100 == 0) old_rate(below(4));
             random_event(&e, damage);
             both(&e, (uint64_t)r * EVENTS + i);
         }
@@ -129,7 +140,7 @@ static void each_byte(void) {
 
 /* numbers of four bytes at and beside their limits: a periodic's interval and time, a rate, a record's size */
 static void each_limit(void) {
-    static const uint32_t limits[] = {0, 1, 3, 4, 5, 12, 13, 0x100, 0x101, 0x7FF, 0x800, 0x900, 65535, 65536, 125000, 500000, 5000, 5001, 65535000, 65535001};
+    static const uint32_t limits[] = {0, 1, 3, 4, 5, 12, 13, 0x100, 0x101, 0x7FF, 0x800, 0x900, 65535, 65536, 125000, 250000, 500000, 5000, 5001, 65535000, 65535001};
     for (size_t line = 0; line < 4; line++)
         for (size_t at = 1; at + 4 <= REGION; at += at < 320 || at >= 360 ? 1 : 4) {
             uint8_t *p = core + 4 + line * REGION + at, was[4];
@@ -267,6 +278,8 @@ int main(int argc, char **argv) {
     isolation(20 * rounds);
     for (int k = 1; k <= KINDS; k++)
         for (int c = 0; c < 0x20; c++) total += counted[k][c], codes += counted[k][c] != 0;
-    printf("core and twin agree: %lu calls, %lu pairs of call and code, verdicts on damaged memories, short buffers, isolation\n", total, codes);
+    printf("core and twin agree: %lu calls, %lu pairs of call and code, %lu channels made to hold 125,000, verdicts on damaged memories, short buffers, "
+           "isolation\n",
+           total, codes, olds);
     return 0;
 }

@@ -39,7 +39,7 @@ static void open_all(void) {
     GIVES(0x00, trawl_power_on(BOX));
     GIVES(0x00, trawl_connect(BOX, 0, 5, 0, 500000, &number));
     GIVES(0x00, trawl_connect(BOX, 1, 5, 0x100, 250000, &number));
-    GIVES(0x00, trawl_connect(BOX, 2, 5, 0x900, 125000, &number));
+    GIVES(0x00, trawl_connect(BOX, 2, 5, 0x900, 250000, &number));
     memcpy(broken, box, sizeof box);
     broken[4] = 2; /* a mark that is neither 0 nor 1 */
     must(!trawl_valid(BROKEN) && !trawl_valid(SHORT) && trawl_valid(BOX), "valid");
@@ -56,6 +56,9 @@ static void lines(void) {
     GIVES(0x06, trawl_connect(BOX, 9, 5, 0x901, 1, &number));
     GIVES(0x19, trawl_connect(BOX, 9, 5, 0x900, 500001, &number));
     GIVES(0x19, trawl_connect(BOX, 0, 5, 0x900, 500001, &number)); /* before 0x14 */
+    GIVES(0x06, trawl_connect(BOX, 9, 5, 0x901, 125000, &number));
+    GIVES(0x19, trawl_connect(BOX, 9, 5, 0x900, 125000, &number));
+    GIVES(0x19, trawl_connect(BOX, 3, 5, 0x900, 125000, &number));
     GIVES(0x13, trawl_connect(BOX, 4, 5, 0x900, 500000, &number));
     GIVES(0x14, trawl_connect(BOX, 0, 5, 0x900, 500000, &number));
     GIVES(0x1A, trawl_advance(BROKEN, 1000001));
@@ -192,11 +195,12 @@ static void settings(void) {
     GIVES(0x02, trawl_get(BOX, 5, 2, &number));
     GIVES(0x01, trawl_get(BOX, BOTH, 2, &number));
     GIVES(0x00, trawl_get(BOX, BOTH, 1, &number));
-    must(number == 125000, "rate");
+    must(number == 250000, "rate");
     GIVES(0x1A, trawl_set(BROKEN, 5, 2, 9));
     GIVES(0x02, trawl_set(BOX, 5, 2, 9));
     GIVES(0x01, trawl_set(BOX, BOTH, 2, 9));
     GIVES(0x05, trawl_set(BOX, BOTH, 1, 9));
+    GIVES(0x05, trawl_set(BOX, BOTH, 1, 125000));
     GIVES(0x05, trawl_set(BOX, BOTH, 3, 2));
     GIVES(0x00, trawl_set(BOX, BOTH, 3, 1));
     GIVES(0x1A, trawl_clear(BROKEN, 5, 5));

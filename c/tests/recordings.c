@@ -1,5 +1,5 @@
-/* Replays, the core against the twin: `recordings [SEED [ROUNDS]]`. Recordings of random events, whole and damaged, into buffers that are
- * exactly long enough between guard bytes, and into buffers that are too short. */
+/* Replays, the core against the twin: `recordings [SEED [ROUNDS]]`. Recordings of random events, with and without an edition, whole and damaged,
+ * into buffers that are exactly long enough between guard bytes, and into buffers that are too short. */
 #include <stdio.h>
 #include <stdlib.h>
 #include <string.h>
@@ -12,7 +12,7 @@ enum { LONGEST = 32768, FULL = TRAWL_REPLAY_ROOM(LONGEST) };
 
 static uint8_t recording[LONGEST + 8], core_room[GUARD + FULL + GUARD], twin_room[GUARD + FULL + GUARD];
 static uint8_t *const core = core_room + GUARD, *const twin = twin_room + GUARD;
-static unsigned long replays, events, output;
+static unsigned long replays, marked, events, output;
 
 static void differs(const char *what, size_t n) {
     FILE *f = fopen("differs.rec", "wb");
@@ -55,10 +55,14 @@ static uint8_t *put_event(uint8_t *p, event *e) {
     }
 }
 
+/* a recording begins with event 0 and an edition */
+static size_t mark(uint32_t edition) { return (size_t)(put(put(recording, 0), edition) - recording); }
+
 static size_t some_recording(size_t most, int damage) {
     static event e;
     size_t n = 0;
     uint8_t one[4096], *end;
+    if (chance(50)) n = mark(2), marked++;
     for (uint32_t line = 0; line < 4 && chance(90); line++) {
         end = put(put(put(put(put(recording + n, CONNECT), line), 5), line * 0x100 & 0x900), 500000);
         n = (size_t)(end - recording), events++;
@@ -101,6 +105,46 @@ static void both(size_t n, size_t room) {
     replays++, output += x;
 }
 
+/* ---- editions ---- */
+
+/* both replay the first n bytes, and write these */
+static void writes(size_t n, const char *expected, size_t m) {
+    size_t length;
+    both(n, TRAWL_REPLAY_ROOM(n));
+    trawl_replay(recording, n, core, FULL, &length);
+    if (length != m || memcmp(core, expected, m)) differs("not what was worked out", n);
+}
+
+/* a connect with 125,000, a connect with 500,000 and a set of 125,000, behind the first n bytes */
+static size_t old_rates(size_t n) {
+    uint8_t *p = put(put(put(put(put(recording + n, CONNECT), 0), 5), 0), 125000);
+    p = put(put(put(put(put(p, CONNECT), 1), 5), 0), 500000);
+    return (size_t)(put(put(put(put(p, SET), 2), 1), 125000) - recording);
+}
+
+static void editions(void) {
+    static const uint32_t others[] = {0, 1, 3, 4, 127, 128, 130, 255, 256, 258, 300, 65538, 0xFFFFFFFF};
+    size_t n;
+    writes(old_rates(0), "\x00\x01\x00\x02\x00", 5);
+    writes(old_rates(mark(2)), "\x19\x00\x02\x05", 4);
+    for (size_t i = 0; i < sizeof others / sizeof *others; i++) writes(old_rates(mark(others[i])), "\xFF\x01", 2);
+    recording[0] = 0, writes(1, "\xFF\x01", 2);
+    writes(mark(2), "", 0);
+    memcpy(recording, "\x00\x82\x00", 3), writes(old_rates(3), "\xFF\x01", 2);
+    memcpy(recording, "\x80\x00\x02", 3), writes(old_rates(3), "\xFF\x01", 2);
+    memcpy(recording, "\x00\x02\x00\x02", 4), writes(old_rates(4), "\xFF\x01", 2);
+    memcpy(recording, "\x00\x02\x03\x00\x02", 5), writes(old_rates(5), "\x00\xFF\x01", 3);
+    memcpy(recording, "\x03\x00\x02", 3), writes(old_rates(3), "\x00\xFF\x01", 3);
+    for (int with = 0; with < 2; with++) {
+        memset(recording, CLOSE, sizeof recording);
+        if (with) mark(2);
+        for (n = LONGEST - 2; n <= LONGEST + 3; n++) both(n, n > LONGEST ? 2 : FULL);
+        both(LONGEST + 1, 1);
+        trawl_replay(recording, LONGEST, core, FULL, &n);
+        if (n != LONGEST - (with ? 2u : 0u)) differs("the mark's bytes count and write nothing", LONGEST);
+    }
+}
+
 int main(int argc, char **argv) {
     uint32_t rounds = argc > 2 ? (uint32_t)strtoul(argv[2], NULL, 10) : 1;
     size_t n;
@@ -115,10 +159,9 @@ int main(int argc, char **argv) {
         for (uint32_t k = 1 + below(3); k > 0; k--) recording[below((uint32_t)n)] = (uint8_t)any();
         both(n, TRAWL_REPLAY_ROOM(n));
     }
-    memset(recording, 3, sizeof recording);
-    for (n = LONGEST - 2; n <= LONGEST + 3; n++) both(n, n > LONGEST ? 2 : FULL);
-    both(LONGEST + 1, 1);
+    editions();
     both(0, TRAWL_REPLAY_ROOM(0));
-    printf("replays agree: %lu recordings of about %lu events, %lu bytes of output\n", replays, events, output);
+    printf("replays agree: %lu recordings, %lu made with the mark of edition 2, of about %lu events, %lu bytes of output\n", replays, marked, events,
+           output);
     return 0;
 }

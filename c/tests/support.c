@@ -114,7 +114,7 @@ void random_event(event *e, int damage) {
     switch (e->kind) {
     case CONNECT:
         e->a = off(below(4), damage), e->b = off(5, damage), e->c = off(ONE_OF(0, 0x100, 0x800, 0x900), damage);
-        e->d = off(ONE_OF(125000, 250000, 500000), damage);
+        e->d = off(ONE_OF(125000, 250000, 250000, 500000, 500000), damage);
         break;
     case ADVANCE:
         e->a = off(ONE_OF(0, 1, 999, 1000, 4999, 5000, 10000, 250000, 999999, 1000000), damage);

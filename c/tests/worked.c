@@ -1,9 +1,11 @@
-/* The hand-worked recordings, through the archive: `worked FOLDER/NAME.rec ..`. Each NAME.out beside it is what the replay must write. */
+/* The hand-worked recordings, through the archive and through the twin: `worked FOLDER/NAME.rec ..`. Each NAME.out beside it is what both replays
+ * must write. */
 #include <stdio.h>
 #include <stdlib.h>
 #include <string.h>
 
 #include "../../include/trawlpepper.h"
+#include "../twin/replay.h"
 
 enum { LONGEST = 32768 };
 
@@ -21,6 +23,16 @@ static size_t all_of(const char *name, uint8_t *to, size_t room) {
     return n;
 }
 
+typedef uint32_t replayer(const uint8_t *recording, size_t n, uint8_t *out, size_t room, size_t *length);
+
+/* the replay of the recording's n bytes writes the m bytes expected */
+static void writes(replayer *replay, const char *side, const char *name, size_t n, size_t m) {
+    size_t length;
+    if (replay(recording, n, output, sizeof output, &length) == STATUS_NOERROR && length == m && memcmp(output, expected, m) == 0) return;
+    fprintf(stderr, "differs: %s, %s\n", name, side);
+    exit(1);
+}
+
 int main(int argc, char **argv) {
     for (int i = 1; i < argc; i++) {
         size_t n = all_of(argv[i], recording, sizeof recording), m, length = strlen(argv[i]);
@@ -29,10 +41,8 @@ int main(int argc, char **argv) {
         memcpy(name, argv[i], length - 4);
         memcpy(name + length - 4, ".out", 5);
         m = all_of(name, expected, sizeof expected);
-        if (trawl_replay(recording, n, output, sizeof output, &length) != STATUS_NOERROR || length != m || memcmp(output, expected, m)) {
-            fprintf(stderr, "differs: %s\n", argv[i]);
-            return 1;
-        }
+        writes(trawl_replay, "the core", argv[i], n, m);
+        writes(twin_replay, "the twin", argv[i], n, m);
     }
     printf("hand-worked recordings agree: %d\n", argc - 1);
     return argc > 1 ? 0 : 1;

@@ -5,7 +5,7 @@
 
 #include "twin.h"
 
-enum { LONGEST = 32768, RECORD = 36, MOST = 64, BAD = 255 };
+enum { LONGEST = 32768, RECORD = 36, MOST = 64, BAD = 255, MARK = 2, EDITION = 2 };
 
 typedef struct {
     const uint8_t *at, *end;
@@ -102,12 +102,14 @@ static uint8_t *play(uint8_t *m, input *in, uint8_t *out) {
 
 uint32_t twin_replay(const uint8_t *recording, size_t n, uint8_t *out, size_t room, size_t *length) {
     uint8_t m[TWIN_MEMORY] = {0}, *at = out;
+    int marked = n >= MARK && recording[0] == 0 && recording[1] == EDITION;
     input in = {recording, recording + n, n > LONGEST};
     *length = 0;
     if (room < (n > LONGEST ? 2 : 19 * n + 2306)) return 0x04;
-    twin_trusts = 1;
+    if (marked) in.at += MARK;
+    twin_trusts = 1, twin_old_rates = !marked;
     while (!in.bad && in.at < in.end) at = play(m, &in, at);
-    twin_trusts = 0;
+    twin_trusts = 0, twin_old_rates = 0;
     if (in.bad) at = put(at, BAD);
     *length = (size_t)(at - out);
     return 0;

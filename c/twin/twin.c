@@ -32,7 +32,7 @@ typedef struct {
 
 typedef char twin_size_is_right[sizeof(device_t) == TWIN_MEMORY ? 1 : -1];
 
-int twin_trusts = 0;
+int twin_trusts = 0, twin_old_rates = 0;
 
 static uint32_t get32(const uint8_t b[4]) {
     return (uint32_t)b[0] | (uint32_t)b[1] << 8 | (uint32_t)b[2] << 16 | (uint32_t)b[3] << 24;
@@ -62,7 +62,9 @@ static int takes(uint32_t flags, int wide) {
 
 static int in_range(uint32_t id, int wide) { return id <= (wide ? 0x1FFFFFFFu : 0x7FFu); }
 
+/* what a memory may hold, and what connect and set take: 125,000 is retired */
 static int is_rate(uint32_t r) { return r == 125000 || r == 250000 || r == 500000; }
+static int takes_rate(uint32_t r) { return is_rate(r) && (r != 125000 || twin_old_rates); }
 
 static int is_flags(uint32_t f) { return (f & ~(uint32_t)0x900) == 0; }
 
@@ -188,7 +190,7 @@ uint32_t twin_connect(uint8_t *m, size_t len, uint32_t line, uint32_t protocol, 
     if (!d) return 0x1A;
     if (protocol != 5) return 0x03;
     if (!is_flags(flags)) return 0x06;
-    if (!is_rate(rate)) return 0x19;
+    if (!takes_rate(rate)) return 0x19;
     if (line > 3) return 0x13;
     if (d->line[line].open) return 0x14;
     d->line[line].open = 1;
@@ -470,7 +472,7 @@ uint32_t twin_set(uint8_t *m, size_t len, uint32_t channel, uint32_t parameter, 
     uint32_t code = find(m, len, channel, &c);
     if (code) return code;
     if (parameter == 1) {
-        if (!is_rate(value)) return 0x05;
+        if (!takes_rate(value)) return 0x05;
         put32(c->rate, value);
         return 0;
     }

@@ -1,5 +1,5 @@
-/* The twin: a second implementation of the scope document in plain C99, written from the scope and docs/LAYOUT.md and from nothing else.
- * It works on the same device memory, which it sees as a struct of bytes. The tests hold the proved core against it. */
+/* The twin: a second implementation of the scope document in plain C99, written from the scope, its requests and docs/LAYOUT.md and from
+ * nothing else. It works on the same device memory, which it sees as a struct of bytes. The tests hold the proved core against it. */
 #ifndef TWIN_H
 #define TWIN_H
 
@@ -31,5 +31,8 @@ uint32_t twin_set(uint8_t *m, size_t len, uint32_t channel, uint32_t parameter, 
 
 /* While this is not 0 the calls above trust the memory and do not look whether it is valid: for comparing the inner calls. */
 extern int twin_trusts;
+
+/* While this is not 0 connect and set take 125,000 too: for recordings without an edition. */
+extern int twin_old_rates;
 
 #endif
