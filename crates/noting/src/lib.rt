@@ -8,7 +8,6 @@ ghost use Rattle.machine.specs.Codes.{callCodes};
 ghost use Rattle.layout.specs.Sizes.{regionSize};
 ghost use Rattle.machine.specs.Channel.{lastError};
 ghost use Rattle.layout.specs.Promise.{gives, Opened, callOutcome, notedIn};
-use codes::Answer;
 
 // Is this 0x00 or a code that a call on an open channel can give? The list is looked through from its end.
 pub fn is_kept(code: u32) -> bool
@@ -45,12 +44,9 @@ pub fn note(mem: &mut [u8], at: usize, code: u32)
 }
 
 // The last code that an open channel keeps.
-pub fn last_in(r: &[u8]) -> Answer
+pub fn last_in(r: &[u8]) -> u32
     requires { ⌜ Opened (now r) ⌝ }
-    ensures { λ a. ⌜ ((rates : List ℕ) (t : ℕ) → gives (a .code) (a .value) [] (now (r .entry)) ≡ callOutcome rates t (now (r .entry)) lastError) ⌝ }
+    ensures { λ k. ⌜ ((rates : List ℕ) (t : ℕ) → gives 0 k [] (now (r .entry)) ≡ callOutcome rates t (now (r .entry)) lastError) ⌝ }
 {
-    Answer {
-        code: codes::STATUS_NOERROR,
-        value: integers::wide(r[places::LAST]),
-    }
+    integers::wide(r[places::LAST])
 }

@@ -124,5 +124,9 @@ pub fn last_error(mem: &[u8], channel: u32) -> Answer
             value: 0,
         };
     }
-    noting::last_in(&mem[a..a + REGION])
+    let value = noting::last_in(&mem[a..a + REGION]);
+    Answer {
+        code: codes::STATUS_NOERROR,
+        value,
+    }
 }

@@ -25,7 +25,7 @@ unfolding onOpen doneWith
 told r o rates t n e = ap (λ (k : ℕ). gives 0 k [] r) (e ∙ last-is r o) ∙ stays r o rates t lastError 0 (openOf r .last) [] refl
 
 returns : tie.Need-returns
-returns c rates t = told _ (c .before .before .pre) rates t _ (c .wide .ensures .0)
+returns c rates t = told _ (c .before .before .before .pre) rates t _ (c .wide .ensures .0)
 
 pub last-in-spec : {M : Type 1} → statement M
 last-in-spec = tie.close (tie.spec (λ c. search needs) (λ c κs. search needs) returns)
