@@ -20,7 +20,7 @@ use Rattle.machine.proofs.Isolation.{different-apart}
 use Rattle.layout.specs.Sizes.{memorySize}
 use Rattle.layout.specs.Memory.{image, load, valid}
 use Rattle.layout.specs.Promise.{Result, answerOf, outcome, powerOnOutcome}
-use Rattle.layout.specs.Runs.{leaves, switchedOn, NothingChanged, AsMachine, Untouched, Commute, Reordered}
+use Rattle.layout.specs.Runs.{leaves, switchedOn, NothingElseChanged, AsMachine, Untouched, Commute, Reordered}
 use Rattle.layout.specs.Reach.{AllBytes}
 use Rattle.layout.proofs.Memory.{valid-image}
 use Rattle.layout.proofs.Sizes.{power-on-zeros}
@@ -38,16 +38,16 @@ pub refused-power-on : (bytes : List ℕ) → powerOnOutcome bytes .code ≢ 0x0
 refused-power-on = not-started-leaves
 
 module _ (rates : List ℕ) (known : Known rates) where
-  -- ---- DEMAND 1: a refused call changes neither the device memory nor any lent buffer
+  -- ---- DEMAND 1: a refused call changes neither the device memory nor any lent buffer, but for the last code of the channel that it names, a byte
 
   -- on whatever bytes are lent as the memory, 0x1A among the refusals
-  pub refused-changes-nothing : (m : List ℕ) (e : Event) → refusal e (answerOf (outcome rates m e)) ≡ true → NothingChanged rates m e
-  refused-changes-nothing m e h = let k = refusal-leaves rates m e h in record { memory = k .0; buffer = k .1 }
+  pub refused-changes-nothing-else : (m : List ℕ) (e : Event) → refusal e (answerOf (outcome rates m e)) ≡ true → NothingElseChanged rates m e
+  refused-changes-nothing-else = refusal-leaves rates
 
   -- from power-on on: after any calls es, a call e that is refused
   pub refused-from-power-on : (bytes : List ℕ) (es : List Event) (e : Event)
-      → refusal e (answerOf (outcome rates (leaves rates (switchedOn bytes) es) e)) ≡ true → NothingChanged rates (leaves rates (switchedOn bytes) es) e
-  refused-from-power-on bytes es e = refused-changes-nothing (leaves rates (switchedOn bytes) es) e
+      → refusal e (answerOf (outcome rates (leaves rates (switchedOn bytes) es) e)) ≡ true → NothingElseChanged rates (leaves rates (switchedOn bytes) es) e
+  refused-from-power-on bytes es e = refused-changes-nothing-else (leaves rates (switchedOn bytes) es) e
 
   -- ---- DEMAND 2: every call gives the answer and leaves the memory of the plain machine
 

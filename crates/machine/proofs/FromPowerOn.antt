@@ -8,7 +8,7 @@ use mathlib.Core.List.{List}
 use Rattle.machine.specs.Limits.{lines}
 use Rattle.machine.specs.Channel.{Call}
 use Rattle.machine.specs.Device.{Event, call, lentBy, powerOn, chanAt, step, run, answers}
-use Rattle.machine.specs.Demands.{FourChannels, refusal, concerns, strike, answersOf, Projected, Exchanged, SameToEach, Arranged, Ignored, Names, byCall}
+use Rattle.machine.specs.Demands.{FourChannels, refusal, remembers, concerns, strike, answersOf, Projected, Exchanged, SameToEach, Arranged, Ignored, Names, byCall}
 use Rattle.machine.proofs.Dispatch.{run-channels-kept}
 use Rattle.machine.proofs.Refusals.{refused-leaves}
 use Rattle.machine.proofs.Isolation.{projection-from, ignored, arranged, different-exchange}
@@ -21,10 +21,12 @@ module _ (rates : List ℕ) where
 
   -- ---- demand 1
 
-  -- A REFUSED CALL CHANGES NOTHING: after any events it leaves the whole box and the lent buffer as they were
-  pub refused-changes-nothing : (es : List Event) (e : Event) → refusal e (step rates (run rates powerOn es) e .1) ≡ true
-      → (step rates (run rates powerOn es) e .0 ≡ run rates powerOn es) × (step rates (run rates powerOn es) e .1 .buffer ≡ lentBy e)
-  refused-changes-nothing es e = refused-leaves rates (run rates powerOn es) e (four es)
+  -- A REFUSED CALL CHANGES NOTHING BUT THE LAST CODE of the channel that it names, which becomes its code: after any events it leaves the whole box
+  -- beside it and the lent buffer as they were
+  pub refused-changes-nothing-else : (es : List Event) (e : Event) → refusal e (step rates (run rates powerOn es) e .1) ≡ true
+      → (step rates (run rates powerOn es) e .0 ≡ remembers e (step rates (run rates powerOn es) e .1 .code) (run rates powerOn es))
+      × (step rates (run rates powerOn es) e .1 .buffer ≡ lentBy e)
+  refused-changes-nothing-else es e = refused-leaves rates (run rates powerOn es) e (four es)
 
   -- ---- demand 3
 
