@@ -11,10 +11,10 @@
  *   - the pointer that a number comes back through is not NULL;
  *   - what a call may write (the memory, a buffer that is not const, a number's pointer) overlaps nothing else that is lent to that call;
  *   - one thread at a time uses a memory. Two memories have nothing in common: calls on different ones may run at the same time.
- * Everything else is checked: any bytes, any lengths, any numbers are answered with a code, and a refused call changes neither the memory
- * nor any lent buffer, not a byte of them. A refusal is every code but STATUS_NOERROR and the two results ERR_TIMEOUT and ERR_BUFFER_OVERFLOW;
- * of a write whose count is above 0 any code is a result, and the records counted are queued. What is lent is used during the call and never
- * after it; what is const is never written.
+ * Everything else is checked: any bytes, any lengths, any numbers are answered with a code. A refused call changes no byte of any lent buffer,
+ * and of the memory nothing but the last code of the channel that it is a call on (see trawl_last_error). A refusal is every code but
+ * STATUS_NOERROR and the two results ERR_TIMEOUT and ERR_BUFFER_OVERFLOW; of a write whose count is above 0 any code is a result, and the records
+ * counted are queued. What is lent is used during the call and never after it; what is const is never written.
  *
  *     static uint8_t box[TRAWL_MEMORY], every[TRAWL_RECORD], record[TRAWL_RECORD];
  *     static const uint8_t data[3] = {0x02, 0x10, 0x03};
@@ -41,13 +41,13 @@ extern "C" {
 
 /* The version of this header and of the archive built from the same sources. The first number changes when a program or a kept memory that was
  * good may be so no more, the second when something is added, the third with everything else. TRAWL_VERSION is for comparing. */
-#define TRAWL_VERSION_MAJOR 2
+#define TRAWL_VERSION_MAJOR 3
 #define TRAWL_VERSION_MINOR 0
 #define TRAWL_VERSION_PATCH 0
 #define TRAWL_VERSION (TRAWL_VERSION_MAJOR * 10000 + TRAWL_VERSION_MINOR * 100 + TRAWL_VERSION_PATCH)
 
 /* The size of the device memory, of a message record and of a telegram record, and the room for the bytes of a telegram. */
-#define TRAWL_MEMORY 9996u
+#define TRAWL_MEMORY 10000u
 #define TRAWL_RECORD 36u
 #define TRAWL_TELEGRAM 32u
 #define TRAWL_TELEGRAM_ROOM 8u
@@ -248,7 +248,7 @@ uint32_t trawl_valid(const uint8_t *memory, size_t memory_length);
 uint32_t trawl_power_on(uint8_t *memory, size_t memory_length);
 
 /* Opens the raw CAN channel of a line (0 to 3) and gives its number, the line plus 1. The new channel is empty: no filters, no periodics, nothing
- * queued, loopback 0.
+ * queued, loopback 0, no last code. Refused with 0x14 it leaves that code with the channel, which is open; refused with another it leaves nothing.
  * Codes: 0x1A; 0x03 protocol is not 5; 0x06 a flag bit other than 0x100 and 0x800; 0x19 rate is not 250000 or 500000 (125000 is retired);
  * 0x13 line over 3; 0x14 the channel is open. */
 uint32_t trawl_connect(uint8_t *memory, size_t memory_length, uint32_t line, uint32_t protocol, uint32_t flags, uint32_t rate,
@@ -325,14 +325,25 @@ uint32_t trawl_sent(uint8_t *memory, size_t memory_length, uint32_t channel);
  * Codes: 0x1A; 0x02; 0x0F kind not 1 to 4. */
 uint32_t trawl_clear(uint8_t *memory, size_t memory_length, uint32_t channel, uint32_t kind);
 
-/* The value of DATA_RATE (1) or LOOPBACK (3). Writes nothing but the value. A kept memory may hold a channel at 125000 from before that rate was
- * retired: it is valid, the channel runs on until it is disconnected or has another rate set, and so long this gives 125000.
+/* The value of DATA_RATE (1) or LOOPBACK (3). A refusal becomes the channel's last code; else nothing but the value is written. A kept memory may
+ * hold a channel at 125000 from before that rate was retired: it is valid, the channel runs on until it is disconnected or has another rate set,
+ * and so long this gives 125000.
  * Codes: 0x1A; 0x02; 0x01 another parameter. */
-uint32_t trawl_get(const uint8_t *memory, size_t memory_length, uint32_t channel, uint32_t parameter, uint32_t *value);
+uint32_t trawl_get(uint8_t *memory, size_t memory_length, uint32_t channel, uint32_t parameter, uint32_t *value);
 
 /* A new value: DATA_RATE 250000 or 500000, LOOPBACK 0 or 1. Nothing else of the channel changes.
  * Codes: 0x1A; 0x02; 0x01 another parameter, whatever the value; 0x05 another value, 125000 too. */
 uint32_t trawl_set(uint8_t *memory, size_t memory_length, uint32_t channel, uint32_t parameter, uint32_t value);
+
+/* The last code of a channel: of the last call on it that was not answered 0x00, or 0 where all were since it was connected. It is what
+ * PassThruGetLastError asks for, of one channel and as a number.
+ *   - Every code but 0x00 counts, results too: a read's 0x09, 0x10 and 0x12, a write's code with a count above 0, a take's 0x10, so that a loop
+ *   which polls take leaves 0x10 here. 0x00 leaves it as it was.
+ *   - The calls are those of this section, and a connect that is answered 0x14. Frames and advances leave it, whatever their code; so do a connect
+ *   with another refusal, and 0x1A and 0x02, since they concern no open channel. Disconnect and close end it with the channel.
+ *   - Asking writes nothing but the number, and is itself no such call.
+ * Codes: 0x1A; 0x02. */
+uint32_t trawl_last_error(const uint8_t *memory, size_t memory_length, uint32_t channel, uint32_t *code);
 
 /* ---- TP2.0 telegrams (SAE J2819) ---- */
 

@@ -76,6 +76,12 @@ static unsigned SIDE(settings)(uint8_t *m) {
     return 16;
 }
 
+static unsigned SIDE(last_error)(uint8_t *m) {
+    uint32_t v;
+    for (uint32_t i = 0; i < 16; i++) keep(CALL(last_error)(m, MEMORY, 1 + (i & 3), &v) + v);
+    return 16;
+}
+
 static unsigned SIDE(clear)(uint8_t *m) {
     for (uint32_t i = 0; i < 16; i++) keep(CALL(clear)(m, MEMORY, 1 + (i & 3), 1 + i / 4));
     return 16;

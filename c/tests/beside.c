@@ -44,7 +44,7 @@ void to_record(uint8_t *record, const PASSTHRU_MSG *from) {
 int main(void) {
     static uint8_t box[TRAWL_MEMORY], record[TRAWL_RECORD];
     static PASSTHRU_MSG message;
-    uint32_t channel, count;
+    uint32_t channel, count, last;
     message.ProtocolID = CAN, message.TxFlags = CAN_29BIT_ID, message.DataSize = 5;
     message.Data[0] = 0x18, message.Data[1] = 0xDA, message.Data[2] = 0xF1, message.Data[3] = 0x10, message.Data[4] = 0x3E;
     to_record(record, &message);
@@ -59,5 +59,6 @@ int main(void) {
     if (message.RxStatus != (CAN_29BIT_ID | TX_MSG_TYPE) || message.DataSize != 5 || message.Data[3] != 0x10) return 8;
     if (trawl_clear(box, sizeof box, channel, trawl_clear_kind(CLEAR_RX_BUFFER)) != STATUS_NOERROR) return 9;
     if (trawl_clear(box, sizeof box, channel, CLEAR_RX_BUFFER) != ERR_INVALID_IOCTL_ID) return 10;
+    if (trawl_last_error(box, sizeof box, channel, &last) != STATUS_NOERROR || last != ERR_INVALID_IOCTL_ID) return 11;
     return 0;
 }

@@ -33,7 +33,41 @@ static int refused(const event *e, reply r) {
     return !(e->kind == WRITE && r.value > 0);
 }
 
-/* one event on both: same code, value, buffers and memory; a refusal changes nothing; guards stay */
+/* ---- the last code of each channel, kept here once more from the answers ---- */
+
+static uint8_t last[5]; /* by channel */
+
+static void note(const event *e, reply r) {
+    switch (e->kind) {
+    case CONNECT:
+        if (r.code == 0x00) last[e->a + 1] = 0;
+        if (r.code == 0x14) last[e->a + 1] = 0x14;
+        break;
+    case DISCONNECT:
+        if (r.code == 0x00) last[e->a] = 0;
+        break;
+    case CLOSE: memset(last, 0, sizeof last); break;
+    case ADVANCE: case FRAME: case LAST_ERROR: break;
+    default:
+        if (r.code != 0x00 && r.code != 0x02) last[e->a] = (uint8_t)r.code;
+        break;
+    }
+}
+
+/* asked of every channel, and of two that are none, both give what was kept here; asking changes nothing */
+static void ask(const event *e, uint64_t turn) {
+    static uint8_t before[TRAWL_MEMORY];
+    memcpy(before, core, TRAWL_MEMORY);
+    for (uint32_t channel = 0; channel <= 5; channel++) {
+        int open = channel >= 1 && channel <= 4 && core[region_of(channel)];
+        uint32_t code = open ? 0x00 : 0x02, number = open ? last[channel] : 0, a = 77, b = 77;
+        if (trawl_last_error(core, TRAWL_MEMORY, channel, &a) != code || a != number) fail("the last code, core", e, turn);
+        if (twin_last_error(twin, TRAWL_MEMORY, channel, &b) != code || b != number) fail("the last code, twin", e, turn);
+    }
+    if (memcmp(before, core, TRAWL_MEMORY)) fail("asking changed the memory", e, turn);
+}
+
+/* one event on both: same code, value, buffers and memory; a refusal changes nothing but the last code of its channel; guards stay */
 static reply both(event *e, uint64_t turn) {
     static uint8_t before[TRAWL_MEMORY];
     static event mine;
@@ -41,7 +75,9 @@ static reply both(event *e, uint64_t turn) {
     mine = *e;
     memcpy(before, core, TRAWL_MEMORY);
     a = on_core(core, TRAWL_MEMORY, &mine);
+    note(e, a);
     if (refused(e, a)) {
+        for (uint32_t channel = 1; channel <= 4; channel++) before[last_of(channel)] = last[channel];
         if (memcmp(before, core, TRAWL_MEMORY)) fail("a refusal changed the memory", e, turn);
         if (memcmp(mine.first.room, e->first.room, sizeof mine.first.room)) fail("a refusal changed a buffer", e, turn);
         if (a.value != 0) fail("a refusal gave a number", e, turn);
@@ -54,6 +90,7 @@ static reply both(event *e, uint64_t turn) {
     if (memcmp(mine.first.room, e->first.room, sizeof mine.first.room) || memcmp(mine.second.room, e->second.room, sizeof mine.second.room))
         fail("buffer", e, turn);
     if (memcmp(core, twin, TRAWL_MEMORY)) fail("memory", e, turn);
+    ask(e, turn);
     counted[e->kind][a.code & 0x1F]++;
     return a;
 }
@@ -62,13 +99,14 @@ static void power_on(void) {
     for (size_t i = 0; i < TRAWL_MEMORY; i++) core[i] = twin[i] = (uint8_t)any();
     if (trawl_power_on(core, TRAWL_MEMORY) != 0 || twin_power_on(twin, TRAWL_MEMORY) != 0) fail("power-on", NULL, 0);
     if (memcmp(core, twin, TRAWL_MEMORY)) fail("power-on's memory", NULL, 0);
+    memset(last, 0, sizeof last);
 }
 
 /* ---- random sequences on four channels ---- */
 
 /* a memory kept from before: this line's channel, if it is open, has the rate that no call takes any more */
 static void old_rate(uint32_t line) {
-    size_t region = 4 + line * REGION;
+    size_t region = region_of(line + 1);
     if (!core[region]) return;
     trawl_store32(core + region + RATE, 125000);
     memcpy(twin, core, TRAWL_MEMORY);
@@ -141,9 +179,9 @@ static void each_byte(void) {
 /* numbers of four bytes at and beside their limits: a periodic's interval and time, a rate, a record's size */
 static void each_limit(void) {
     static const uint32_t limits[] = {0, 1, 3, 4, 5, 12, 13, 0x100, 0x101, 0x7FF, 0x800, 0x900, 65535, 65536, 125000, 250000, 500000, 5000, 5001, 65535000, 65535001};
-    for (size_t line = 0; line < 4; line++)
+    for (uint32_t line = 0; line < 4; line++)
         for (size_t at = 1; at + 4 <= REGION; at += at < 320 || at >= 360 ? 1 : 4) {
-            uint8_t *p = core + 4 + line * REGION + at, was[4];
+            uint8_t *p = core + region_of(line + 1) + at, was[4];
             memcpy(was, p, 4);
             for (size_t k = 0; k < sizeof limits / sizeof *limits; k++) {
                 uint32_t v = limits[k];
@@ -153,6 +191,21 @@ static void each_limit(void) {
             }
             memcpy(p, was, 4);
         }
+}
+
+/* every byte as a last code: a closed channel has 0, an open one may have those that calls on it give */
+static void each_last(void) {
+    static const uint8_t good[] = {0x00, 0x01, 0x04, 0x05, 0x07, 0x09, 0x0A, 0x0B, 0x0C, 0x0D, 0x0F, 0x10, 0x11, 0x12, 0x14, 0x15, 0x16};
+    for (uint32_t channel = 1; channel <= 4; channel++) {
+        uint8_t was = core[last_of(channel)];
+        for (int v = 0; v < 256; v++) {
+            int fits = v == 0 || (core[region_of(channel)] && memchr(good, v, sizeof good));
+            core[last_of(channel)] = (uint8_t)v;
+            if (twin_valid(core, TRAWL_MEMORY) != fits) fail("a last code, twin", NULL, (uint64_t)v);
+            same_verdict(TRAWL_MEMORY, "a last code, core", (uint64_t)v);
+        }
+        core[last_of(channel)] = was;
+    }
 }
 
 static void several_bytes(void) {
@@ -184,10 +237,12 @@ static void damaged(uint32_t rounds) {
         busy();
         each_byte();
         each_limit();
+        each_last();
         several_bytes();
         each_length();
-        memset(core + 4 + REGION, 0, REGION), memset(core + 4 + 3 * REGION, 0, REGION); /* channels 2 and 4 closed */
+        memset(core + region_of(2), 0, REGION), memset(core + region_of(4), 0, REGION); /* two are closed */
         each_byte();
+        each_last();
         random_bytes();
     }
 }
@@ -245,7 +300,8 @@ static void isolation(uint32_t rounds) {
                 if (x.code != rs[i].code || x.value != rs[i].value) fail("struck out: an answer", &es[i], r);
                 if (memcmp(&e.first, &buffers[i], sizeof e.first)) fail("struck out: a buffer", &es[i], r);
             }
-            if (memcmp(core, whole, 4) || memcmp(core + 4 + line * REGION, whole + 4 + line * REGION, REGION)) fail("struck out: what it holds", NULL, r);
+            if (memcmp(core, whole, 4) || memcmp(core + region_of(line + 1), whole + region_of(line + 1), REGION))
+                fail("struck out: what it holds", NULL, r);
         }
         for (int k = 0; k < 20; k++) {
             int at = (int)below(EVENTS - 1);
@@ -278,8 +334,8 @@ int main(int argc, char **argv) {
     isolation(20 * rounds);
     for (int k = 1; k <= KINDS; k++)
         for (int c = 0; c < 0x20; c++) total += counted[k][c], codes += counted[k][c] != 0;
-    printf("core and twin agree: %lu calls, %lu pairs of call and code, %lu channels made to hold 125,000, verdicts on damaged memories, short buffers, "
-           "isolation\n",
+    printf("core and twin agree: %lu calls, %lu pairs of call and code, the last code of each channel after each, %lu channels made to hold 125,000, "
+           "verdicts on damaged memories, short buffers, isolation\n",
            total, codes, olds);
     return 0;
 }

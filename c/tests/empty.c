@@ -21,6 +21,11 @@ static void must(int true_, const char *what) {
 #define STAYS(code, want, call, number)                                                                                                   \
     (number = 77, memcpy(before, box, sizeof box), must((call) == (code) && number == (want) && memcmp(before, box, sizeof box) == 0, #call))
 
+/* the same of a refused call on channel 1: the memory as it was but for the channel's last code */
+#define NOTED(code, want, call, number)                                                                                                   \
+    (number = 77, memcpy(before, box, sizeof box), before[last_of(1)] = (code),                                                           \
+     must((call) == (code) && number == (want) && memcmp(before, box, sizeof box) == 0, #call))
+
 int main(void) {
     static uint8_t record[TRAWL_RECORD], mask[TRAWL_RECORD], telegram[TRAWL_TELEGRAM], room[TRAWL_REPLAY_ROOM(0)];
     uint32_t v;
@@ -44,18 +49,19 @@ int main(void) {
     NONE_ALONE(trawl_clear(NULL, 0, 1, 1));
     NONE(trawl_get(NULL, 0, 1, 1, &v), v);
     NONE_ALONE(trawl_set(NULL, 0, 1, 3, 1));
+    NONE(trawl_last_error(NULL, 0, 1, &v), v);
 
     must(trawl_power_on(box, sizeof box) == 0 && trawl_connect(box, sizeof box, 0, 5, 0, 500000, &v) == 0, "connect");
     trawl_record_make(record, 0, 0, NULL, 0);
-    STAYS(0x04, 0, trawl_start_filter(box, sizeof box, 1, 1, NULL, 0, record, sizeof record, &v), v);
-    STAYS(0x04, 0, trawl_start_filter(box, sizeof box, 1, 1, record, sizeof record, NULL, 0, &v), v);
-    STAYS(0x04, 0, trawl_start_filter(box, sizeof box, 1, 1, NULL, 0, NULL, 0, &v), v);
-    STAYS(0x04, 0, trawl_start_periodic(box, sizeof box, 1, NULL, 0, 5, &v), v);
-    STAYS(0x04, 0, trawl_write(box, sizeof box, 1, 1, NULL, 0, &v), v);
+    NOTED(0x04, 0, trawl_start_filter(box, sizeof box, 1, 1, NULL, 0, record, sizeof record, &v), v);
+    NOTED(0x04, 0, trawl_start_filter(box, sizeof box, 1, 1, record, sizeof record, NULL, 0, &v), v);
+    NOTED(0x04, 0, trawl_start_filter(box, sizeof box, 1, 1, NULL, 0, NULL, 0, &v), v);
+    NOTED(0x04, 0, trawl_start_periodic(box, sizeof box, 1, NULL, 0, 5, &v), v);
+    NOTED(0x04, 0, trawl_write(box, sizeof box, 1, 1, NULL, 0, &v), v);
     STAYS(0x00, 0, trawl_write(box, sizeof box, 1, 0, NULL, 0, &v), v);
-    STAYS(0x04, 0, trawl_read(box, sizeof box, 1, 1, NULL, 0, &v), v);
+    NOTED(0x04, 0, trawl_read(box, sizeof box, 1, 1, NULL, 0, &v), v);
     STAYS(0x00, 0, trawl_read(box, sizeof box, 1, 0, NULL, 0, &v), v);
-    STAYS(0x04, 77, trawl_take(box, sizeof box, 1, NULL, 0), v);
+    NOTED(0x04, 77, trawl_take(box, sizeof box, 1, NULL, 0), v);
     STAYS(0x13, 77, trawl_frame(box, sizeof box, 4, 0, 0, NULL, 0), v);
     STAYS(0x00, 77, trawl_frame(box, sizeof box, 0, 0, 0x7E8, NULL, 0), v); /* no filter lets nothing in */
 
@@ -69,7 +75,7 @@ int main(void) {
     must(trawl_start_filter(box, sizeof box, 1, 1, mask, sizeof mask, record, sizeof record, &v) == 0 && v == 2, "filter of four bytes");
     must(trawl_frame(box, sizeof box, 0, 0, 0x7E8, NULL, 0) == 0, "frame without data");
     STAYS(0x00, 0, trawl_read(box, sizeof box, 1, 0, NULL, 0, &v), v);
-    STAYS(0x04, 0, trawl_read(box, sizeof box, 1, 1, NULL, 0, &v), v);
+    NOTED(0x04, 0, trawl_read(box, sizeof box, 1, 1, NULL, 0, &v), v);
     must(trawl_read(box, sizeof box, 1, 1, record, sizeof record, &v) == 0 && v == 1, "read");
     must(trawl_record_identifier(record) == 0x7E8 && trawl_record_size(record) == 4 && trawl_record_data_size(record) == 0, "its record");
 

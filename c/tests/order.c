@@ -1,5 +1,5 @@
 /* The codes of each call in the order of the header: a call with everything wrong, then with one thing after another put right. Each refusal must
- * leave the memory, and the number must be 0. */
+ * leave the memory but for the last code of its channel, and the number must be 0. */
 #include <stdio.h>
 #include <string.h>
 
@@ -26,6 +26,27 @@ static void must(int true_, const char *what) {
         number = 0;                                                                                                                       \
         given = (call);                                                                                                                   \
         must(given == (code), #code " of " #call);                                                                                        \
+        if (given != 0x00 && given != 0x09 && given != 0x12 && number == 0) must(memcmp(before, box, sizeof box) == 0, "stays: " #call);  \
+        if (given != 0x00 && given != 0x09 && given != 0x12 && given != 0x11) must(number == 0, "no number: " #call);                     \
+    } while (0)
+
+/* the last code of an open channel */
+static uint32_t last(uint32_t channel) {
+    uint32_t code = 77;
+    must(trawl_last_error(box, sizeof box, channel, &code) == 0x00, "asked for the last code");
+    return code;
+}
+
+/* the same of a call on an open channel: its code, unless it is 0x00, is then the last one there, and that is all that a refusal changes */
+#define NOTES(channel, code, call)                                                                                                        \
+    do {                                                                                                                                  \
+        uint32_t given, was = last(channel);                                                                                              \
+        memcpy(before, box, sizeof box);                                                                                                  \
+        number = 0;                                                                                                                       \
+        given = (call);                                                                                                                   \
+        must(given == (code), #code " of " #call);                                                                                        \
+        must(last(channel) == ((code) != 0x00 ? (code) : was), "last code: " #call);                                                      \
+        before[last_of(channel)] = box[last_of(channel)];                                                                                 \
         if (given != 0x00 && given != 0x09 && given != 0x12 && number == 0) must(memcmp(before, box, sizeof box) == 0, "stays: " #call);  \
         if (given != 0x00 && given != 0x09 && given != 0x12 && given != 0x11) must(number == 0, "no number: " #call);                     \
     } while (0)
@@ -60,7 +81,7 @@ static void lines(void) {
     GIVES(0x19, trawl_connect(BOX, 9, 5, 0x900, 125000, &number));
     GIVES(0x19, trawl_connect(BOX, 3, 5, 0x900, 125000, &number));
     GIVES(0x13, trawl_connect(BOX, 4, 5, 0x900, 500000, &number));
-    GIVES(0x14, trawl_connect(BOX, 0, 5, 0x900, 500000, &number));
+    NOTES(NARROW, 0x14, trawl_connect(BOX, 0, 5, 0x900, 500000, &number));
     GIVES(0x1A, trawl_advance(BROKEN, 1000001));
     GIVES(0x0B, trawl_advance(BOX, 1000001));
     GIVES(0x00, trawl_advance(BOX, 1000000));
@@ -85,33 +106,33 @@ static void filters(void) {
     GIVES(0x02, trawl_start_filter(BOX, 5, 3, other, 35, other, 35, &number));
     GIVES(0x02, trawl_start_filter(BOX, 0, 3, other, 35, other, 35, &number));
     GIVES(0x02, trawl_start_filter(BOX, CLOSED, 3, other, 35, other, 35, &number));
-    GIVES(0x04, trawl_start_filter(BOX, NARROW, 3, other, 35, R(other), &number));
-    GIVES(0x04, trawl_start_filter(BOX, NARROW, 3, R(other), other, 35, &number));
-    GIVES(0x16, trawl_start_filter(BOX, NARROW, 3, R(other), R(other), &number));
-    GIVES(0x16, trawl_start_filter(BOX, NARROW, 257, R(other), R(other), &number));
-    GIVES(0x15, trawl_start_filter(BOX, NARROW, 1, R(other), R(thirteen), &number));
-    GIVES(0x15, trawl_start_filter(BOX, NARROW, 1, R(thirteen), R(other), &number));
-    GIVES(0x0A, trawl_start_filter(BOX, NARROW, 1, R(good), R(longer), &number));
-    GIVES(0x0A, trawl_start_filter(BOX, NARROW, 1, R(thirteen), R(thirteen), &number));
-    GIVES(0x0A, trawl_start_filter(BOX, NARROW, 1, R(none), R(none), &number));
-    GIVES(0x0A, trawl_start_filter(BOX, NARROW, 1, R(good), R(bits), &number));
-    GIVES(0x0A, trawl_start_filter(BOX, NARROW, 1, R(wide), R(wide), &number));
-    GIVES(0x0A, trawl_start_filter(BOX, WIDE, 1, R(good), R(good), &number));
+    NOTES(NARROW, 0x04, trawl_start_filter(BOX, NARROW, 3, other, 35, R(other), &number));
+    NOTES(NARROW, 0x04, trawl_start_filter(BOX, NARROW, 3, R(other), other, 35, &number));
+    NOTES(NARROW, 0x16, trawl_start_filter(BOX, NARROW, 3, R(other), R(other), &number));
+    NOTES(NARROW, 0x16, trawl_start_filter(BOX, NARROW, 257, R(other), R(other), &number));
+    NOTES(NARROW, 0x15, trawl_start_filter(BOX, NARROW, 1, R(other), R(thirteen), &number));
+    NOTES(NARROW, 0x15, trawl_start_filter(BOX, NARROW, 1, R(thirteen), R(other), &number));
+    NOTES(NARROW, 0x0A, trawl_start_filter(BOX, NARROW, 1, R(good), R(longer), &number));
+    NOTES(NARROW, 0x0A, trawl_start_filter(BOX, NARROW, 1, R(thirteen), R(thirteen), &number));
+    NOTES(NARROW, 0x0A, trawl_start_filter(BOX, NARROW, 1, R(none), R(none), &number));
+    NOTES(NARROW, 0x0A, trawl_start_filter(BOX, NARROW, 1, R(good), R(bits), &number));
+    NOTES(NARROW, 0x0A, trawl_start_filter(BOX, NARROW, 1, R(wide), R(wide), &number));
+    NOTES(WIDE, 0x0A, trawl_start_filter(BOX, WIDE, 1, R(good), R(good), &number));
     for (uint32_t i = 1; i <= 10; i++) {
-        GIVES(0x00, trawl_start_filter(BOX, NARROW, 1 + i % 2, R(good), R(good), &number));
+        NOTES(NARROW, 0x00, trawl_start_filter(BOX, NARROW, 1 + i % 2, R(good), R(good), &number));
         must(number == i, "a filter's number");
     }
-    GIVES(0x0A, trawl_start_filter(BOX, NARROW, 1, R(good), R(bits), &number)); /* before 0x0C */
-    GIVES(0x0C, trawl_start_filter(BOX, NARROW, 1, R(good), R(good), &number));
-    GIVES(0x00, trawl_start_filter(BOX, BOTH, 1, R(wide), R(wide), &number)); /* each channel has ten of its own */
+    NOTES(NARROW, 0x0A, trawl_start_filter(BOX, NARROW, 1, R(good), R(bits), &number)); /* before 0x0C */
+    NOTES(NARROW, 0x0C, trawl_start_filter(BOX, NARROW, 1, R(good), R(good), &number));
+    NOTES(BOTH, 0x00, trawl_start_filter(BOX, BOTH, 1, R(wide), R(wide), &number)); /* each channel has ten of its own */
     GIVES(0x1A, trawl_stop_filter(BROKEN, 5, 11));
     GIVES(0x02, trawl_stop_filter(BOX, 5, 11));
-    GIVES(0x16, trawl_stop_filter(BOX, NARROW, 11));
-    GIVES(0x16, trawl_stop_filter(BOX, NARROW, 0));
-    GIVES(0x16, trawl_stop_filter(BOX, WIDE, 1));
-    GIVES(0x00, trawl_stop_filter(BOX, NARROW, 3));
-    GIVES(0x16, trawl_stop_filter(BOX, NARROW, 3));
-    GIVES(0x00, trawl_start_filter(BOX, NARROW, 1, R(good), R(good), &number));
+    NOTES(NARROW, 0x16, trawl_stop_filter(BOX, NARROW, 11));
+    NOTES(NARROW, 0x16, trawl_stop_filter(BOX, NARROW, 0));
+    NOTES(WIDE, 0x16, trawl_stop_filter(BOX, WIDE, 1));
+    NOTES(NARROW, 0x00, trawl_stop_filter(BOX, NARROW, 3));
+    NOTES(NARROW, 0x16, trawl_stop_filter(BOX, NARROW, 3));
+    NOTES(NARROW, 0x00, trawl_start_filter(BOX, NARROW, 1, R(good), R(good), &number));
     must(number == 3, "the smallest free number");
 }
 
@@ -125,90 +146,98 @@ static void sending(void) {
 
     GIVES(0x1A, trawl_start_periodic(BROKEN, 5, other, 35, 4, &number));
     GIVES(0x02, trawl_start_periodic(BOX, CLOSED, other, 35, 4, &number));
-    GIVES(0x04, trawl_start_periodic(BOX, NARROW, other, 35, 4, &number));
-    GIVES(0x0B, trawl_start_periodic(BOX, NARROW, R(other), 4, &number));
-    GIVES(0x0B, trawl_start_periodic(BOX, NARROW, R(other), 65536, &number));
-    GIVES(0x15, trawl_start_periodic(BOX, NARROW, R(other), 5, &number));
-    GIVES(0x0A, trawl_start_periodic(BOX, NARROW, R(three), 5, &number));
-    GIVES(0x0A, trawl_start_periodic(BOX, NARROW, R(wide), 5, &number));
-    GIVES(0x0A, trawl_start_periodic(BOX, NARROW, R(large), 5, &number));
+    NOTES(NARROW, 0x04, trawl_start_periodic(BOX, NARROW, other, 35, 4, &number));
+    NOTES(NARROW, 0x0B, trawl_start_periodic(BOX, NARROW, R(other), 4, &number));
+    NOTES(NARROW, 0x0B, trawl_start_periodic(BOX, NARROW, R(other), 65536, &number));
+    NOTES(NARROW, 0x15, trawl_start_periodic(BOX, NARROW, R(other), 5, &number));
+    NOTES(NARROW, 0x0A, trawl_start_periodic(BOX, NARROW, R(three), 5, &number));
+    NOTES(NARROW, 0x0A, trawl_start_periodic(BOX, NARROW, R(wide), 5, &number));
+    NOTES(NARROW, 0x0A, trawl_start_periodic(BOX, NARROW, R(large), 5, &number));
     for (uint32_t i = 1; i <= 10; i++) {
-        GIVES(0x00, trawl_start_periodic(BOX, NARROW, R(good), 65535, &number));
+        NOTES(NARROW, 0x00, trawl_start_periodic(BOX, NARROW, R(good), 65535, &number));
         must(number == i, "a periodic's number");
     }
-    GIVES(0x0A, trawl_start_periodic(BOX, NARROW, R(large), 5, &number)); /* before 0x0C */
-    GIVES(0x0C, trawl_start_periodic(BOX, NARROW, R(good), 5, &number));
+    NOTES(NARROW, 0x0A, trawl_start_periodic(BOX, NARROW, R(large), 5, &number)); /* before 0x0C */
+    NOTES(NARROW, 0x0C, trawl_start_periodic(BOX, NARROW, R(good), 5, &number));
     GIVES(0x1A, trawl_stop_periodic(BROKEN, 5, 11));
     GIVES(0x02, trawl_stop_periodic(BOX, CLOSED, 11));
-    GIVES(0x0D, trawl_stop_periodic(BOX, NARROW, 11));
-    GIVES(0x0D, trawl_stop_periodic(BOX, BOTH, 1));
-    GIVES(0x00, trawl_stop_periodic(BOX, NARROW, 1));
+    NOTES(NARROW, 0x0D, trawl_stop_periodic(BOX, NARROW, 11));
+    NOTES(BOTH, 0x0D, trawl_stop_periodic(BOX, BOTH, 1));
+    NOTES(NARROW, 0x00, trawl_stop_periodic(BOX, NARROW, 1));
 
     GIVES(0x1A, trawl_write(BROKEN, 5, 2, other, 36, &number));
     GIVES(0x02, trawl_write(BOX, CLOSED, 2, other, 36, &number));
-    GIVES(0x04, trawl_write(BOX, WIDE, 2, other, 36, &number));
-    GIVES(0x04, trawl_write(BOX, WIDE, 0xFFFFFFFF, other, 36, &number));
-    GIVES(0x15, trawl_write(BOX, WIDE, 1, other, 36, &number));
-    GIVES(0x0A, trawl_write(BOX, WIDE, 1, good, 36, &number));
-    GIVES(0x00, trawl_write(BOX, NARROW, 0, good, 0, &number));
-    GIVES(0x11, trawl_write(BOX, NARROW, 17, many, sizeof many, &number));
+    NOTES(WIDE, 0x04, trawl_write(BOX, WIDE, 2, other, 36, &number));
+    NOTES(WIDE, 0x04, trawl_write(BOX, WIDE, 0xFFFFFFFF, other, 36, &number));
+    NOTES(WIDE, 0x15, trawl_write(BOX, WIDE, 1, other, 36, &number));
+    NOTES(WIDE, 0x0A, trawl_write(BOX, WIDE, 1, good, 36, &number));
+    NOTES(NARROW, 0x00, trawl_write(BOX, NARROW, 0, good, 0, &number));
+    NOTES(NARROW, 0x11, trawl_write(BOX, NARROW, 17, many, sizeof many, &number));
     must(number == 16, "sixteen queued");
-    GIVES(0x11, trawl_write(BOX, NARROW, 1, good, 36, &number));
+    NOTES(NARROW, 0x11, trawl_write(BOX, NARROW, 1, good, 36, &number));
     must(number == 0, "none queued");
-    GIVES(0x15, trawl_write(BOX, NARROW, 1, other, 36, &number)); /* a record's own code before 0x11 */
-    GIVES(0x0A, trawl_write(BOX, NARROW, 1, large, 36, &number));
+    NOTES(NARROW, 0x15, trawl_write(BOX, NARROW, 1, other, 36, &number)); /* a record's own code before 0x11 */
+    NOTES(NARROW, 0x0A, trawl_write(BOX, NARROW, 1, large, 36, &number));
 
     GIVES(0x1A, trawl_sent(BROKEN, 5));
     GIVES(0x02, trawl_sent(BOX, CLOSED));
-    GIVES(0x07, trawl_sent(BOX, NARROW));
+    NOTES(NARROW, 0x07, trawl_sent(BOX, NARROW));
     GIVES(0x1A, trawl_take(BROKEN, 5, out, 35));
     GIVES(0x02, trawl_take(BOX, CLOSED, out, 35));
-    GIVES(0x04, trawl_take(BOX, BOTH, out, 35)); /* also where there is no frame */
-    GIVES(0x10, trawl_take(BOX, BOTH, R(out)));
-    GIVES(0x00, trawl_take(BOX, NARROW, R(out)));
-    GIVES(0x00, trawl_sent(BOX, NARROW));
-    GIVES(0x07, trawl_sent(BOX, NARROW));
+    NOTES(BOTH, 0x04, trawl_take(BOX, BOTH, out, 35)); /* also where there is no frame */
+    NOTES(BOTH, 0x10, trawl_take(BOX, BOTH, R(out)));
+    NOTES(NARROW, 0x00, trawl_take(BOX, NARROW, R(out)));
+    NOTES(NARROW, 0x00, trawl_sent(BOX, NARROW));
+    NOTES(NARROW, 0x07, trawl_sent(BOX, NARROW));
 }
 
 static void reading(void) {
     static uint8_t out[40 * 36];
     GIVES(0x1A, trawl_read(BROKEN, 5, 2, out, 71, &number));
     GIVES(0x02, trawl_read(BOX, CLOSED, 2, out, 71, &number));
-    GIVES(0x04, trawl_read(BOX, BOTH, 2, out, 71, &number));
-    GIVES(0x00, trawl_read(BOX, BOTH, 0, out, 0, &number));
-    GIVES(0x10, trawl_read(BOX, BOTH, 40, R(out), &number));
+    NOTES(BOTH, 0x04, trawl_read(BOX, BOTH, 2, out, 71, &number));
+    NOTES(BOTH, 0x00, trawl_read(BOX, BOTH, 0, out, 0, &number));
+    NOTES(BOTH, 0x10, trawl_read(BOX, BOTH, 40, R(out), &number));
     for (int i = 0; i < 3; i++) GIVES(0x00, trawl_frame(BOX, 2, 1, 0x18DAF110, NULL, 0));
-    GIVES(0x00, trawl_read(BOX, BOTH, 1, R(out), &number));
+    NOTES(BOTH, 0x00, trawl_read(BOX, BOTH, 1, R(out), &number));
     must(number == 1, "one read");
-    GIVES(0x09, trawl_read(BOX, BOTH, 3, R(out), &number));
+    NOTES(BOTH, 0x09, trawl_read(BOX, BOTH, 3, R(out), &number));
     must(number == 2, "two read");
     for (int i = 0; i < 33; i++) GIVES(0x00, trawl_frame(BOX, 2, 1, 0x18DAF110, NULL, 0));
-    GIVES(0x04, trawl_read(BOX, BOTH, 40, out, 1439, &number));
-    GIVES(0x00, trawl_read(BOX, BOTH, 0, R(out), &number)); /* the mark stays */
-    GIVES(0x12, trawl_read(BOX, BOTH, 32, R(out), &number));
+    NOTES(BOTH, 0x04, trawl_read(BOX, BOTH, 40, out, 1439, &number));
+    NOTES(BOTH, 0x00, trawl_read(BOX, BOTH, 0, R(out), &number)); /* the mark stays */
+    NOTES(BOTH, 0x12, trawl_read(BOX, BOTH, 32, R(out), &number));
     must(number == 32, "all read, and the loss told");
-    GIVES(0x10, trawl_read(BOX, BOTH, 32, R(out), &number));
+    NOTES(BOTH, 0x10, trawl_read(BOX, BOTH, 32, R(out), &number));
 }
 
 static void settings(void) {
     GIVES(0x1A, trawl_get(BROKEN, 5, 2, &number));
     GIVES(0x02, trawl_get(BOX, 5, 2, &number));
-    GIVES(0x01, trawl_get(BOX, BOTH, 2, &number));
-    GIVES(0x00, trawl_get(BOX, BOTH, 1, &number));
+    NOTES(BOTH, 0x01, trawl_get(BOX, BOTH, 2, &number));
+    NOTES(BOTH, 0x00, trawl_get(BOX, BOTH, 1, &number));
     must(number == 250000, "rate");
     GIVES(0x1A, trawl_set(BROKEN, 5, 2, 9));
     GIVES(0x02, trawl_set(BOX, 5, 2, 9));
-    GIVES(0x01, trawl_set(BOX, BOTH, 2, 9));
-    GIVES(0x05, trawl_set(BOX, BOTH, 1, 9));
-    GIVES(0x05, trawl_set(BOX, BOTH, 1, 125000));
-    GIVES(0x05, trawl_set(BOX, BOTH, 3, 2));
-    GIVES(0x00, trawl_set(BOX, BOTH, 3, 1));
+    NOTES(BOTH, 0x01, trawl_set(BOX, BOTH, 2, 9));
+    NOTES(BOTH, 0x05, trawl_set(BOX, BOTH, 1, 9));
+    NOTES(BOTH, 0x05, trawl_set(BOX, BOTH, 1, 125000));
+    NOTES(BOTH, 0x05, trawl_set(BOX, BOTH, 3, 2));
+    NOTES(BOTH, 0x00, trawl_set(BOX, BOTH, 3, 1));
     GIVES(0x1A, trawl_clear(BROKEN, 5, 5));
     GIVES(0x02, trawl_clear(BOX, 5, 5));
-    GIVES(0x0F, trawl_clear(BOX, BOTH, 0));
-    for (uint32_t kind = 5; kind < 40; kind++) GIVES(0x0F, trawl_clear(BOX, BOTH, kind)); /* J2534-1's own numbers too */
-    for (uint32_t kind = 1; kind < 5; kind++) GIVES(0x00, trawl_clear(BOX, BOTH, kind));
-    for (uint32_t ioctl = 7; ioctl < 11; ioctl++) GIVES(0x00, trawl_clear(BOX, BOTH, trawl_clear_kind(ioctl)));
+    NOTES(BOTH, 0x0F, trawl_clear(BOX, BOTH, 0));
+    for (uint32_t kind = 5; kind < 40; kind++) NOTES(BOTH, 0x0F, trawl_clear(BOX, BOTH, kind)); /* J2534-1's own numbers too */
+    for (uint32_t kind = 1; kind < 5; kind++) NOTES(BOTH, 0x00, trawl_clear(BOX, BOTH, kind));
+    for (uint32_t ioctl = 7; ioctl < 11; ioctl++) NOTES(BOTH, 0x00, trawl_clear(BOX, BOTH, trawl_clear_kind(ioctl)));
+    GIVES(0x1A, trawl_last_error(BROKEN, 5, &number));
+    GIVES(0x1A, trawl_last_error(SHORT, 5, &number));
+    GIVES(0x02, trawl_last_error(BOX, 5, &number));
+    GIVES(0x02, trawl_last_error(BOX, CLOSED, &number));
+    GIVES(0x02, trawl_last_error(BOX, 257, &number));
+    NOTES(BOTH, 0x0F, trawl_clear(BOX, BOTH, 9));
+    NOTES(BOTH, 0x00, trawl_last_error(BOX, BOTH, &number));
+    must(number == 0x0F, "the last code");
     GIVES(0x1A, trawl_disconnect(BROKEN, 5));
     GIVES(0x02, trawl_disconnect(BOX, CLOSED));
     GIVES(0x00, trawl_disconnect(BOX, BOTH));

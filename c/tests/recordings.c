@@ -37,8 +37,9 @@ static uint8_t *raw(uint8_t *p, lent *from, size_t n) {
     return p + n;
 }
 
-/* an event in bytes; 0 where it lends other lengths than a recording can say */
+/* an event in bytes; 0 where it lends other lengths than a recording can say, or is a call that recordings don't hold */
 static uint8_t *put_event(uint8_t *p, event *e) {
+    if (e->kind > SET) return NULL;
     p = put(p, (uint32_t)e->kind);
     if (e->kind == CLOSE) return p;
     p = put(p, e->a);

@@ -38,6 +38,7 @@ static void do_sent(void) { trawl_sent(BOX, 1); }
 static void do_clear(void) { trawl_clear(BOX, 1, 3); }
 static void do_get(void) { trawl_get(BOX, 1, 1, &number); }
 static void do_set(void) { trawl_set(BOX, 1, 3, 1); }
+static void do_last_error(void) { trawl_last_error(BOX, 1, &number); }
 static void do_read_telegram(void) { trawl_read_telegram(0, 0, (const uint8_t *)"\xA0\x0F\x8A\xFF\x32\xFF", 6, telegram, sizeof telegram); }
 static void do_write_telegram(void) { trawl_write_telegram(telegram, sizeof telegram, eight, 8, &number); }
 static void do_time(void) { number = trawl_time(0x8A); }
@@ -49,7 +50,7 @@ static const struct {
 } calls[] = {{"valid", do_valid}, {"power_on", do_power_on}, {"connect", do_connect}, {"close", do_close}, {"advance", do_advance},
              {"frame", do_frame}, {"disconnect", do_disconnect}, {"start_filter", do_start_filter}, {"stop_filter", do_stop_filter},
              {"start_periodic", do_start_periodic}, {"stop_periodic", do_stop_periodic}, {"write", do_write}, {"read", do_read},
-             {"take", do_take}, {"sent", do_sent}, {"clear", do_clear}, {"get", do_get}, {"set", do_set},
+             {"take", do_take}, {"sent", do_sent}, {"clear", do_clear}, {"get", do_get}, {"set", do_set}, {"last_error", do_last_error},
              {"read_telegram", do_read_telegram}, {"write_telegram", do_write_telegram}, {"time", do_time}, {"replay", do_replay}};
 
 /* ---- a painted stack ---- */

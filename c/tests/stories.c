@@ -7,7 +7,7 @@
 #include "../twin/twin.h"
 #include "support.h"
 
-static uint8_t box[TRAWL_MEMORY], every[TRAWL_RECORD], record[TRAWL_RECORD];
+static uint8_t box[TRAWL_MEMORY], every[TRAWL_RECORD], record[TRAWL_RECORD], many[17 * TRAWL_RECORD];
 static unsigned long held;
 
 static void must(int true_, const char *what) {
@@ -17,7 +17,6 @@ static void must(int true_, const char *what) {
 
 #define BOX box, sizeof box
 #define LEND(b) b, sizeof b
-#define REGION(channel) (4 + ((channel) - 1) * (TRAWL_MEMORY - 4) / 4) /* where a channel's bytes begin */
 
 /* a call's code, and for those that give a number (in v) that number */
 #define CODE(code, call) must((call) == (code), #code " of " #call)
@@ -36,6 +35,7 @@ static void must(int true_, const char *what) {
 
 int main(void) {
     trawl_record_make(every, 0, 0, NULL, 0);
+    for (size_t i = 0; i < 17; i++) memcpy(many + i * sizeof every, every, sizeof every);
     core_all();
     twin_tells_all();
     printf("stories worked out by hand, core and twin: %lu looks\n", held);

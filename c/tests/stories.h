@@ -10,7 +10,7 @@ static void SIDE(retired)(void) {
     CODE(0x06, CALL(connect)(BOX, 9, 5, 1, 125000, &v));
     CODE(0x00, CALL(connect)(BOX, 0, 5, 0, 500000, &v));
     CODE(0x05, CALL(set)(BOX, 1, 1, 125000));
-    trawl_store32(box + REGION(1) + 5, 125000);
+    trawl_store32(box + region_of(1) + 5, 125000);
     must(CALL(valid)(BOX) != 0, "a memory that holds 125,000 is valid");
     GIVES(0x00, 125000, CALL(get)(BOX, 1, 1, &v));
     CODE(0x05, CALL(set)(BOX, 1, 1, 125000)); /* even there */
@@ -34,6 +34,78 @@ static void SIDE(retired)(void) {
     CODE(0x00, CALL(connect)(BOX, 0, 5, 0, 250000, &v));
 }
 
+/* the last code of a channel */
+#define ASKED(number, channel) GIVES(0x00, number, CALL(last_error)(BOX, channel, &v))
+
+static void SIDE(went_wrong)(void) {
+    uint32_t v;
+    CODE(0x00, CALL(power_on)(BOX));
+    CODE(0x00, CALL(connect)(BOX, 0, 5, 0, 500000, &v));
+    ASKED(0, 1);
+    GIVES(0x10, 0, CALL(read)(BOX, 1, 1, LEND(record), &v));
+    ASKED(0x10, 1);
+    GIVES(0x00, 0, CALL(read)(BOX, 1, 0, LEND(record), &v));
+    ASKED(0x10, 1); /* 0x00 leaves it */
+    ASKED(0x10, 1); /* asking too */
+
+    CODE(0x13, CALL(frame)(BOX, 9, 0, 0, NULL, 0));
+    CODE(0x0A, CALL(frame)(BOX, 0, 0, 0x800, NULL, 0));
+    CODE(0x0B, CALL(advance)(BOX, 2000000));
+    GIVES(0x19, 0, CALL(connect)(BOX, 0, 5, 0, 1, &v));
+    GIVES(0x03, 0, CALL(connect)(BOX, 0, 6, 0, 500000, &v));
+    GIVES(0x06, 0, CALL(connect)(BOX, 0, 5, 1, 500000, &v));
+    GIVES(0x13, 0, CALL(connect)(BOX, 4, 5, 0, 500000, &v));
+    GIVES(0x02, 0, CALL(read)(BOX, 2, 1, LEND(record), &v));
+    GIVES(0x02, 0, CALL(read)(BOX, 257, 1, LEND(record), &v));
+    CODE(0x1A, CALL(sent)(box, sizeof box - 1, 1));
+    ASKED(0x10, 1); /* none of these is kept */
+    GIVES(0x02, 0, CALL(last_error)(BOX, 2, &v));
+    ASKED(0x10, 1); /* nor is this */
+
+    GIVES(0x14, 0, CALL(connect)(BOX, 0, 5, 0, 500000, &v));
+    ASKED(0x14, 1);
+    GIVES(0x11, 16, CALL(write)(BOX, 1, 17, LEND(many), &v)); /* a result counts */
+    ASKED(0x11, 1);
+    CODE(0x04, CALL(take)(BOX, 1, record, 35));
+    ASKED(0x04, 1);
+    CODE(0x00, CALL(connect)(BOX, 1, 5, 0, 500000, &v)); /* each channel has its own */
+    ASKED(0, 2);
+    CODE(0x07, CALL(sent)(BOX, 2));
+    ASKED(0x07, 2);
+    ASKED(0x04, 1);
+    GIVES(0x01, 0, CALL(get)(BOX, 2, 9, &v)); /* a get's refusal too */
+    ASKED(0x01, 2);
+    CODE(0x05, CALL(set)(BOX, 2, 1, 125000));
+    ASKED(0x05, 2);
+    CODE(0x00, CALL(disconnect)(BOX, 1));
+    must(box[last_of(1)] == 0, "gone with the channel");
+    CODE(0x00, CALL(connect)(BOX, 0, 5, 0, 500000, &v));
+    ASKED(0, 1);
+    ASKED(0x05, 2);
+    CODE(0x00, CALL(close)(BOX));
+    must(box[last_of(2)] == 0, "gone with the channels");
+}
+
+/* results of a read: fewer than asked, and a loss */
+static void SIDE(results)(void) {
+    static uint8_t room[40 * TRAWL_RECORD];
+    uint32_t v;
+    CODE(0x00, CALL(power_on)(BOX));
+    CODE(0x00, CALL(connect)(BOX, 3, 5, 0, 500000, &v));
+    GIVES(0x00, 1, CALL(start_filter)(BOX, 4, 1, LEND(every), LEND(every), &v));
+    CODE(0x00, CALL(frame)(BOX, 3, 0, 1, NULL, 0));
+    GIVES(0x09, 1, CALL(read)(BOX, 4, 2, LEND(room), &v));
+    ASKED(0x09, 4);
+    for (int i = 0; i < 33; i++) CODE(0x00, CALL(frame)(BOX, 3, 0, 1, NULL, 0));
+    ASKED(0x09, 4); /* the loss is told by the read */
+    GIVES(0x12, 32, CALL(read)(BOX, 4, 40, LEND(room), &v));
+    ASKED(0x12, 4);
+}
+
 static void SIDE(all)(void) {
     SIDE(retired)();
+    SIDE(went_wrong)();
+    SIDE(results)();
 }
+
+#undef ASKED

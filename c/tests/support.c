@@ -44,6 +44,14 @@ int guarded(const lent *b) {
     return 1;
 }
 
+/* ---- the memory ---- */
+
+enum { CLOCK = 4, REGION = (TRAWL_MEMORY - CLOCK) / 4 };
+
+size_t region_of(uint32_t channel) { return CLOCK + (channel - 1) * REGION; }
+
+size_t last_of(uint32_t channel) { return region_of(channel) + REGION - 1; }
+
 /* ---- records ---- */
 
 static void word(uint8_t *p, uint32_t v) {
@@ -87,7 +95,7 @@ static void some_pair(uint8_t *mask, uint8_t *pattern, int damage) {
 
 const char *name_of(int kind) {
     static const char *const names[] = {"-", "connect", "disconnect", "close", "advance", "frame", "start filter", "stop filter",
-                                        "start periodic", "stop periodic", "write", "read", "take", "sent", "clear", "get", "set"};
+                                        "start periodic", "stop periodic", "write", "read", "take", "sent", "clear", "get", "set", "last error"};
     return names[kind];
 }
 
@@ -104,7 +112,7 @@ static uint32_t some_length(uint32_t good, int damage) {
 void random_event(event *e, int damage) {
     static const int often[] = {CONNECT,    DISCONNECT,     ADVANCE, ADVANCE, FRAME, FRAME, FRAME, FRAME, FRAME, FRAME, FRAME, FRAME, START_FILTER,
                                 STOP_FILTER, START_PERIODIC, STOP_PERIODIC, WRITE, WRITE, READ,  READ,  TAKE,  TAKE,  SENT,  SENT,  CLEAR,
-                                GET,        SET,            SET,     START_FILTER, START_PERIODIC, CONNECT};
+                                GET,        SET,            SET,     START_FILTER, START_PERIODIC, CONNECT, LAST_ERROR};
     uint32_t channel = off(1 + below(4), damage / 4), flags, n;
     memset(e, 0, sizeof *e);
     e->kind = chance(1) ? (chance(10) ? CLOSE : DISCONNECT) : often[below(sizeof often / sizeof *often)];
@@ -170,7 +178,7 @@ void random_event(event *e, int damage) {
 /* a call that gives a number writes it whatever its code: it begins as one that no call gives */
 static uint32_t stale(int kind) {
     switch (kind) {
-    case CONNECT: case START_FILTER: case START_PERIODIC: case WRITE: case READ: case GET: return 0xBADC0DEu;
+    case CONNECT: case START_FILTER: case START_PERIODIC: case WRITE: case READ: case GET: case LAST_ERROR: return 0xBADC0DEu;
     default: return 0;
     }
 }
@@ -197,6 +205,7 @@ static uint32_t stale(int kind) {
         case CLEAR: r.code = CALL(clear)(m, length, e->a, e->b); break;                                                                   \
         case GET: r.code = CALL(get)(m, length, e->a, e->b, &r.value); break;                                                             \
         case SET: r.code = CALL(set)(m, length, e->a, e->b, e->c); break;                                                                 \
+        case LAST_ERROR: r.code = CALL(last_error)(m, length, e->a, &r.value); break;                                                     \
         default: break;                                                                                                                   \
         }                                                                                                                                 \
         return r;                                                                                                                         \

@@ -28,7 +28,7 @@ int guarded(const lent *b);   /* the guards are as they were */
 /* ---- events ---- */
 
 enum { CONNECT = 1, DISCONNECT, CLOSE, ADVANCE, FRAME, START_FILTER, STOP_FILTER, START_PERIODIC, STOP_PERIODIC, WRITE, READ, TAKE, SENT,
-       CLEAR, GET, SET, KINDS = SET };
+       CLEAR, GET, SET, LAST_ERROR, KINDS = LAST_ERROR }; /* up to SET by their numbers in recordings, which hold no others */
 
 typedef struct {
     int kind;
@@ -44,6 +44,10 @@ const char *name_of(int kind);
 void random_event(event *e, int damage); /* damage: percent of numbers, records and lengths that are off */
 reply on_core(uint8_t *memory, size_t length, event *e);
 reply on_twin(uint8_t *memory, size_t length, event *e);
+
+/* where the bytes of a channel's region begin, and where its last code lies; the channel is 1 to 4 */
+size_t region_of(uint32_t channel);
+size_t last_of(uint32_t channel);
 
 /* a message record at p: protocol 5, these flags, an identifier and n data bytes */
 void record_at(uint8_t *p, uint32_t flags, uint32_t identifier, uint32_t n);

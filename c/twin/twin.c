@@ -23,6 +23,7 @@ typedef struct {
     uint8_t held;
     record in[QUEUE];
     uint8_t lost;
+    uint8_t last; /* the last code other than 0x00 */
 } channel_t;
 
 typedef struct {
@@ -101,10 +102,19 @@ static int good_periodic(const channel_t *c, int i, uint32_t flags) {
     return good_record(&c->periodic[i], flags, 0);
 }
 
+/* no code yet, or one that a call on an open channel gives */
+static int is_last(uint8_t code) {
+    switch (code) {
+    case 0x00: case 0x01: case 0x04: case 0x05: case 0x07: case 0x09: case 0x0A: case 0x0B: case 0x0C: case 0x0D: case 0x0F: case 0x10:
+    case 0x11: case 0x12: case 0x14: case 0x15: case 0x16: return 1;
+    default: return 0;
+    }
+}
+
 static int good_channel(const channel_t *c) {
     uint32_t flags = get32(c->flags);
     if (c->open == 0) return zeros(c, sizeof *c);
-    if (c->open > 1 || !is_flags(flags) || !is_rate(get32(c->rate)) || c->loopback > 1 || c->lost > 1) return 0;
+    if (c->open > 1 || !is_flags(flags) || !is_rate(get32(c->rate)) || c->loopback > 1 || c->lost > 1 || !is_last(c->last)) return 0;
     for (int i = 0; i < FILTERS; i++)
         if (!good_filter(c, i, flags)) return 0;
     for (int i = 0; i < PERIODICS; i++)
@@ -128,12 +138,20 @@ static device_t *device(uint8_t *m, size_t len) {
     return (device_t *)m;
 }
 
+static int is_open(const device_t *d, uint32_t number) { return number >= 1 && number <= 4 && d->line[number - 1].open; }
+
 static uint32_t find(uint8_t *m, size_t len, uint32_t number, channel_t **c) {
     device_t *d = device(m, len);
     if (!d) return 0x1A;
-    if (number < 1 || number > 4 || !d->line[number - 1].open) return 0x02;
+    if (!is_open(d, number)) return 0x02;
     *c = &d->line[number - 1];
     return 0;
+}
+
+/* the answer of a call on an open channel, which keeps it unless it is 0x00 */
+static uint32_t noted(channel_t *c, uint32_t code) {
+    if (code) c->last = (uint8_t)code;
+    return code;
 }
 
 static int shorter(size_t len, uint32_t n) { return (uint64_t)len < (uint64_t)RECORD * n; }
@@ -192,7 +210,7 @@ uint32_t twin_connect(uint8_t *m, size_t len, uint32_t line, uint32_t protocol, 
     if (!is_flags(flags)) return 0x06;
     if (!takes_rate(rate)) return 0x19;
     if (line > 3) return 0x13;
-    if (d->line[line].open) return 0x14;
+    if (d->line[line].open) return noted(&d->line[line], 0x14);
     d->line[line].open = 1;
     put32(d->line[line].flags, flags);
     put32(d->line[line].rate, rate);
@@ -273,14 +291,11 @@ uint32_t twin_frame(uint8_t *m, size_t len, uint32_t line, uint32_t wide, uint32
     return 0;
 }
 
-uint32_t twin_start_filter(uint8_t *m, size_t len, uint32_t channel, uint32_t type, const uint8_t *mask, size_t mask_len,
-                           const uint8_t *pattern, size_t pattern_len, uint32_t *number) {
+static uint32_t start_filter(channel_t *c, uint32_t type, const uint8_t *mask, size_t mask_len, const uint8_t *pattern, size_t pattern_len,
+                             uint32_t *number) {
     const record *a = (const record *)mask, *b = (const record *)pattern;
-    channel_t *c;
-    uint32_t size, code = find(m, len, channel, &c);
+    uint32_t size;
     int i;
-    *number = 0;
-    if (code) return code;
     if (shorter(mask_len, 1) || shorter(pattern_len, 1)) return 0x04;
     if (type != 1 && type != 2) return 0x16;
     if (get32(a->protocol) != 5 || get32(b->protocol) != 5) return 0x15;
@@ -299,10 +314,7 @@ uint32_t twin_start_filter(uint8_t *m, size_t len, uint32_t channel, uint32_t ty
     return 0;
 }
 
-uint32_t twin_stop_filter(uint8_t *m, size_t len, uint32_t channel, uint32_t number) {
-    channel_t *c;
-    uint32_t code = find(m, len, channel, &c);
-    if (code) return code;
+static uint32_t stop_filter(channel_t *c, uint32_t number) {
     if (number < 1 || number > FILTERS || !c->type[number - 1]) return 0x16;
     c->type[number - 1] = c->wide[number - 1] = c->size[number - 1] = 0;
     memset(c->mask[number - 1], 0, ROW);
@@ -312,13 +324,9 @@ uint32_t twin_stop_filter(uint8_t *m, size_t len, uint32_t channel, uint32_t num
 
 /* ---- periodics ---- */
 
-uint32_t twin_start_periodic(uint8_t *m, size_t len, uint32_t channel, const uint8_t *message, size_t message_len, uint32_t interval,
-                             uint32_t *number) {
-    channel_t *c;
-    uint32_t code = find(m, len, channel, &c);
+static uint32_t start_periodic(channel_t *c, const uint8_t *message, size_t message_len, uint32_t interval, uint32_t *number) {
+    uint32_t code;
     int i;
-    *number = 0;
-    if (code) return code;
     if (shorter(message_len, 1)) return 0x04;
     if (interval < 5 || interval > 65535) return 0x0B;
     code = message_code((const record *)message, get32(c->flags));
@@ -334,10 +342,7 @@ uint32_t twin_start_periodic(uint8_t *m, size_t len, uint32_t channel, const uin
     return 0;
 }
 
-uint32_t twin_stop_periodic(uint8_t *m, size_t len, uint32_t channel, uint32_t number) {
-    channel_t *c;
-    uint32_t code = find(m, len, channel, &c);
-    if (code) return code;
+static uint32_t stop_periodic(channel_t *c, uint32_t number) {
     if (number < 1 || number > PERIODICS || !get32(c->interval[number - 1])) return 0x0D;
     put32(c->interval[number - 1], 0);
     put32(c->phase[number - 1], 0);
@@ -348,15 +353,11 @@ uint32_t twin_stop_periodic(uint8_t *m, size_t len, uint32_t channel, uint32_t n
 
 /* ---- write, read, take, sent ---- */
 
-uint32_t twin_write(uint8_t *m, size_t len, uint32_t channel, uint32_t n, const uint8_t *b, size_t b_len, uint32_t *count) {
-    channel_t *c;
-    uint32_t code = find(m, len, channel, &c);
-    *count = 0;
-    if (code) return code;
+static uint32_t put_records(channel_t *c, uint32_t n, const uint8_t *b, size_t b_len, uint32_t *count) {
     if (shorter(b_len, n)) return 0x04;
     for (uint32_t i = 0; i < n; i++) {
         const record *r = (const record *)b + i;
-        code = message_code(r, get32(c->flags));
+        uint32_t code = message_code(r, get32(c->flags));
         if (code) return code;
         if (c->written == WRITTEN) return 0x11;
         clean(&c->out[c->written++], r);
@@ -365,12 +366,9 @@ uint32_t twin_write(uint8_t *m, size_t len, uint32_t channel, uint32_t n, const 
     return 0;
 }
 
-uint32_t twin_read(uint8_t *m, size_t len, uint32_t channel, uint32_t n, uint8_t *b, size_t b_len, uint32_t *count) {
-    channel_t *c;
-    uint32_t moved, code = find(m, len, channel, &c);
+static uint32_t get_records(channel_t *c, uint32_t n, uint8_t *b, size_t b_len, uint32_t *count) {
+    uint32_t moved;
     int lost;
-    *count = 0;
-    if (code) return code;
     if (shorter(b_len, n)) return 0x04;
     if (n == 0) return 0;
     moved = n < c->held ? n : c->held;
@@ -382,10 +380,7 @@ uint32_t twin_read(uint8_t *m, size_t len, uint32_t channel, uint32_t n, uint8_t
     return lost ? 0x12 : moved == n ? 0x00 : moved == 0 ? 0x10 : 0x09;
 }
 
-uint32_t twin_take(uint8_t *m, size_t len, uint32_t channel, uint8_t *b, size_t b_len) {
-    channel_t *c;
-    uint32_t code = find(m, len, channel, &c);
-    if (code) return code;
+static uint32_t take(channel_t *c, uint8_t *b, size_t b_len) {
     if (shorter(b_len, 1)) return 0x04;
     if (!c->flying) {
         int i;
@@ -406,13 +401,9 @@ uint32_t twin_take(uint8_t *m, size_t len, uint32_t channel, uint8_t *b, size_t 
     return 0;
 }
 
-uint32_t twin_sent(uint8_t *m, size_t len, uint32_t channel) {
-    channel_t *c;
-    uint32_t code = find(m, len, channel, &c);
-    if (code) return code;
+static uint32_t sent(channel_t *c, uint32_t now) {
     if (!c->flying) return 0x07;
-    if (c->loopback)
-        arrive(c, get32(c->flight.tx) + 1, get32(((device_t *)m)->clock), c->flight.data, get32(c->flight.size));
+    if (c->loopback) arrive(c, get32(c->flight.tx) + 1, now, c->flight.data, get32(c->flight.size));
     c->flying = 0;
     memset(&c->flight, 0, RECORD);
     return 0;
@@ -420,10 +411,7 @@ uint32_t twin_sent(uint8_t *m, size_t len, uint32_t channel) {
 
 /* ---- clear, get, set ---- */
 
-uint32_t twin_clear(uint8_t *m, size_t len, uint32_t channel, uint32_t kind) {
-    channel_t *c;
-    uint32_t code = find(m, len, channel, &c);
-    if (code) return code;
+static uint32_t clear(channel_t *c, uint32_t kind) {
     switch (kind) {
     case 1:
         c->written = 0;
@@ -451,11 +439,7 @@ uint32_t twin_clear(uint8_t *m, size_t len, uint32_t channel, uint32_t kind) {
     }
 }
 
-uint32_t twin_get(uint8_t *m, size_t len, uint32_t channel, uint32_t parameter, uint32_t *value) {
-    channel_t *c;
-    uint32_t code = find(m, len, channel, &c);
-    *value = 0;
-    if (code) return code;
+static uint32_t get(const channel_t *c, uint32_t parameter, uint32_t *value) {
     if (parameter == 1) {
         *value = get32(c->rate);
         return 0;
@@ -467,10 +451,7 @@ uint32_t twin_get(uint8_t *m, size_t len, uint32_t channel, uint32_t parameter, 
     return 0x01;
 }
 
-uint32_t twin_set(uint8_t *m, size_t len, uint32_t channel, uint32_t parameter, uint32_t value) {
-    channel_t *c;
-    uint32_t code = find(m, len, channel, &c);
-    if (code) return code;
+static uint32_t set(channel_t *c, uint32_t parameter, uint32_t value) {
     if (parameter == 1) {
         if (!takes_rate(value)) return 0x05;
         put32(c->rate, value);
@@ -482,4 +463,89 @@ uint32_t twin_set(uint8_t *m, size_t len, uint32_t channel, uint32_t parameter, 
         return 0;
     }
     return 0x01;
+}
+
+/* ---- the same as calls on a channel: 0x1A and 0x02 first, and the code is kept ---- */
+
+uint32_t twin_start_filter(uint8_t *m, size_t len, uint32_t channel, uint32_t type, const uint8_t *mask, size_t mask_len,
+                           const uint8_t *pattern, size_t pattern_len, uint32_t *number) {
+    channel_t *c;
+    uint32_t code = find(m, len, channel, &c);
+    *number = 0;
+    return code ? code : noted(c, start_filter(c, type, mask, mask_len, pattern, pattern_len, number));
+}
+
+uint32_t twin_stop_filter(uint8_t *m, size_t len, uint32_t channel, uint32_t number) {
+    channel_t *c;
+    uint32_t code = find(m, len, channel, &c);
+    return code ? code : noted(c, stop_filter(c, number));
+}
+
+uint32_t twin_start_periodic(uint8_t *m, size_t len, uint32_t channel, const uint8_t *message, size_t message_len, uint32_t interval,
+                             uint32_t *number) {
+    channel_t *c;
+    uint32_t code = find(m, len, channel, &c);
+    *number = 0;
+    return code ? code : noted(c, start_periodic(c, message, message_len, interval, number));
+}
+
+uint32_t twin_stop_periodic(uint8_t *m, size_t len, uint32_t channel, uint32_t number) {
+    channel_t *c;
+    uint32_t code = find(m, len, channel, &c);
+    return code ? code : noted(c, stop_periodic(c, number));
+}
+
+uint32_t twin_write(uint8_t *m, size_t len, uint32_t channel, uint32_t n, const uint8_t *b, size_t b_len, uint32_t *count) {
+    channel_t *c;
+    uint32_t code = find(m, len, channel, &c);
+    *count = 0;
+    return code ? code : noted(c, put_records(c, n, b, b_len, count));
+}
+
+uint32_t twin_read(uint8_t *m, size_t len, uint32_t channel, uint32_t n, uint8_t *b, size_t b_len, uint32_t *count) {
+    channel_t *c;
+    uint32_t code = find(m, len, channel, &c);
+    *count = 0;
+    return code ? code : noted(c, get_records(c, n, b, b_len, count));
+}
+
+uint32_t twin_take(uint8_t *m, size_t len, uint32_t channel, uint8_t *b, size_t b_len) {
+    channel_t *c;
+    uint32_t code = find(m, len, channel, &c);
+    return code ? code : noted(c, take(c, b, b_len));
+}
+
+uint32_t twin_sent(uint8_t *m, size_t len, uint32_t channel) {
+    channel_t *c;
+    uint32_t code = find(m, len, channel, &c);
+    return code ? code : noted(c, sent(c, get32(((device_t *)m)->clock)));
+}
+
+uint32_t twin_clear(uint8_t *m, size_t len, uint32_t channel, uint32_t kind) {
+    channel_t *c;
+    uint32_t code = find(m, len, channel, &c);
+    return code ? code : noted(c, clear(c, kind));
+}
+
+uint32_t twin_get(uint8_t *m, size_t len, uint32_t channel, uint32_t parameter, uint32_t *value) {
+    channel_t *c;
+    uint32_t code = find(m, len, channel, &c);
+    *value = 0;
+    return code ? code : noted(c, get(c, parameter, value));
+}
+
+uint32_t twin_set(uint8_t *m, size_t len, uint32_t channel, uint32_t parameter, uint32_t value) {
+    channel_t *c;
+    uint32_t code = find(m, len, channel, &c);
+    return code ? code : noted(c, set(c, parameter, value));
+}
+
+/* asking is not kept */
+uint32_t twin_last_error(const uint8_t *m, size_t len, uint32_t channel, uint32_t *code) {
+    const device_t *d = (const device_t *)m;
+    *code = 0;
+    if (!twin_trusts && !twin_valid(m, len)) return 0x1A;
+    if (!is_open(d, channel)) return 0x02;
+    *code = d->line[channel - 1].last;
+    return 0;
 }

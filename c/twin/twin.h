@@ -6,7 +6,7 @@
 #include <stddef.h>
 #include <stdint.h>
 
-#define TWIN_MEMORY 9996u
+#define TWIN_MEMORY 10000u
 
 int twin_valid(const uint8_t *m, size_t len);
 uint32_t twin_power_on(uint8_t *m, size_t len);
@@ -28,6 +28,7 @@ uint32_t twin_sent(uint8_t *m, size_t len, uint32_t channel);
 uint32_t twin_clear(uint8_t *m, size_t len, uint32_t channel, uint32_t kind);
 uint32_t twin_get(uint8_t *m, size_t len, uint32_t channel, uint32_t parameter, uint32_t *value);
 uint32_t twin_set(uint8_t *m, size_t len, uint32_t channel, uint32_t parameter, uint32_t value);
+uint32_t twin_last_error(const uint8_t *m, size_t len, uint32_t channel, uint32_t *code);
 
 /* While this is not 0 the calls above trust the memory and do not look whether it is valid: for comparing the inner calls. */
 extern int twin_trusts;
