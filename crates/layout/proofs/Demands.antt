@@ -12,20 +12,21 @@ use lib.Dec.{T}
 use Rattle.codec.specs.Plain.{member, zeros}
 use Rattle.machine.specs.Codes.{threeRates}
 use Rattle.machine.specs.Limits.{lines}
-use Rattle.machine.specs.Channel.{Call}
+use Rattle.machine.specs.Channel.{Call, Pairs, getList, setList}
 use Rattle.machine.specs.Device.{Event, call, powerOn}
-use Rattle.machine.specs.Demands.{refusal, Apart, Names, byCall, SameToEach}
+use Rattle.machine.specs.Demands.{pairCodes, refusal, Apart, Names, byCall, SameToEach}
 use Rattle.machine.proofs.Isolation.{different-apart}
 use Rattle.layout.specs.Sizes.{memorySize}
 use Rattle.layout.specs.Memory.{image, load, valid}
 use Rattle.layout.specs.Promise.{Result, answerOf, outcome, powerOnOutcome}
-use Rattle.layout.specs.Runs.{leaves, switchedOn, NothingChanged, AsMachine, Untouched, Commute, Reordered}
+use Rattle.layout.specs.Runs.{leaves, switchedOn, NothingChanged, SetListEnded, GetListEnded, AsMachine, Untouched, Commute, Reordered}
 use Rattle.layout.specs.Reach.{AllBytes}
 use Rattle.layout.proofs.Memory.{valid-image}
 use Rattle.layout.proofs.Sizes.{power-on-zeros}
 use Rattle.layout.proofs.Calls.{Known}
 use Rattle.layout.proofs.Reach.{power-on-ok}
 use Rattle.layout.proofs.Unique.{refusal-leaves, valid-answered, started, not-started-leaves}
+use Rattle.layout.proofs.Lists.{set-list-ended as set-ended, get-list-ended as get-ended}
 use Rattle.layout.proofs.Isolation.{image-runs, runs, stays-valid, struck, exchanged, rearranged}
 
 known : Known threeRates
@@ -45,6 +46,14 @@ refused-changes-nothing m e h = let k = refusal-leaves threeRates m e h in recor
 pub refused-from-power-on : (bytes : List ℕ) (es : List Event) (e : Event)
     → refusal e (answerOf (outcome threeRates (leaves threeRates (switchedOn bytes) es) e)) ≡ true → NothingChanged threeRates (leaves threeRates (switchedOn bytes) es) e
 refused-from-power-on bytes es e = refused-changes-nothing (leaves threeRates (switchedOn bytes) es) e
+
+-- a list of parameters that a pair ended (02, P2, amends the demand for lists only), on whatever bytes are lent as the memory: a set leaves what its
+-- accepted pairs leave, a get leaves the refused pair and all behind it
+pub set-list-ended : (m : List ℕ) (k : ℕ) (ps : Pairs) → member (outcome threeRates m (call k (setList ps)) .code) pairCodes ≡ true → SetListEnded threeRates m k ps
+set-list-ended = set-ended threeRates known
+
+pub get-list-ended : (m : List ℕ) (k : ℕ) (ps : Pairs) → member (outcome threeRates m (call k (getList ps)) .code) pairCodes ≡ true → GetListEnded threeRates m k ps
+get-list-ended = get-ended threeRates known
 
 -- power-on itself, which lends no buffer: where its code is not 0x00 the bytes stay
 pub refused-power-on : (bytes : List ℕ) → powerOnOutcome bytes .code ≢ 0x00 → powerOnOutcome bytes .memory ≡ bytes
