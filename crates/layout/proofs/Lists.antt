@@ -14,7 +14,7 @@ use Rattle.machine.specs.Limits.{lines, mostPairs}
 use Rattle.machine.specs.Channel.{Open, Chan, opened, Answer, says, Pairs, flat, getParameter, setParameter, getList, setList}
 use Rattle.machine.specs.Device.{Device, Event, call, lentBy, chanAt, step}
 use Rattle.machine.specs.Demands.{pairCodes, SetEnded, GetEnded}
-use Rattle.machine.proofs.Pairs.{OpenAt, set-none, get-none, SetGoes, set-step, set-stop, get-leaves-all, get-step, get-stop, set-ended, get-ended}
+use Rattle.machine.proofs.Pairs.{OpenAt, set-none, get-none, set-over as over-set, get-over as over-get, SetGoes, set-step, set-stop, get-leaves-all, get-step, get-stop, set-ended, get-ended}
 use Rattle.layout.specs.Sizes.{regionAt, regionSize}
 use Rattle.layout.specs.Memory.{memory, image, load, valid, region}
 use Rattle.layout.specs.Promise.{Result, gives, answered, outcome, Opened, Found}
@@ -89,6 +89,19 @@ module _ (rates : List ℕ) (known : Known rates) where
     get-ends =
         renumbered (λ j. gives 0 0 [] m ≡ outcome rates m (call j (getList [])))
         (ap (λ (x : List ℕ). gives 0 0 [] x) (sym (image-load m (r .good))) ∙ sym (told m (r .good) _ ∙ ap inBytes (get-none rates d (r .line) (r .channel) (r .there))))
+
+    -- more than 16 pairs
+    pub set-over : (ps : Pairs) → mostPairs < length ps → gives 0x04 0 [] m ≡ outcome rates m (call k (setList ps))
+    unfolding says
+    set-over ps h =
+        renumbered (λ j. gives 0x04 0 [] m ≡ outcome rates m (call j (setList ps)))
+        (ap (λ (x : List ℕ). gives 0x04 0 [] x) (sym (image-load m (r .good))) ∙ sym (told m (r .good) _ ∙ ap inBytes (over-set rates d (r .line) (r .channel) (r .there) ps h)))
+
+    pub get-over : (ps : Pairs) → mostPairs < length ps → gives 0x04 0 (flat ps) m ≡ outcome rates m (call k (getList ps))
+    unfolding says
+    get-over ps h =
+        renumbered (λ j. gives 0x04 0 (flat ps) m ≡ outcome rates m (call j (getList ps)))
+        (ap (λ (x : List ℕ). gives 0x04 0 (flat ps) x) (sym (image-load m (r .good))) ∙ sym (told m (r .good) _ ∙ ap inBytes (over-get rates d (r .line) (r .channel) (r .there) ps h)))
 
     module _ (p : ℕ × ℕ) (ps : Pairs) (h : length (p ∷ ps) ≤ mostPairs) where
       -- a set that is accepted: the channel stays open, and the rest of the list does what the list does

@@ -119,6 +119,15 @@ module _ (rates : List ℕ) (d : Device) (i : ℕ) (o : Open) (a : OpenAt i o d)
   pub get-none : at (getList []) ≡ (d, says 0x00 0 [])
   get-none = step-open (getList []) ∙ ap from (get-nothing rates (d .clock) o) ∙ ap (λ (x : Device). (x, says 0x00 0 [])) unmoved
 
+  -- more than 16 pairs
+  pub set-over : (ps : Pairs) → mostPairs < length ps → at (setList ps) ≡ (d, says 0x04 0 [])
+  unfolding onCall onOpen
+  set-over ps h = step-open (setList ps) ∙ ap from (set-many rates o ps h) ∙ ap (λ (x : Device). (x, says 0x04 0 [])) unmoved
+
+  pub get-over : (ps : Pairs) → mostPairs < length ps → at (getList ps) ≡ (d, says 0x04 0 (flat ps))
+  unfolding onCall onOpen
+  get-over ps h = step-open (getList ps) ∙ ap from (get-many rates o ps h) ∙ ap (λ (x : Device). (x, says 0x04 0 (flat ps))) unmoved
+
   module _ (p : ℕ × ℕ) where
     -- an accepted set: the channel stays open, and the rest of the list goes on from there
     pub record SetGoes : Type 0 where

@@ -1,0 +1,66 @@
+-- What a list is refused with before any pair. Assumes nothing.
+use mathlib.Core.Path.{_≡_, refl, sym, _∙_, subst}
+use Prim.Native.Nat.{ℕ, _≤_, _<_}
+use native.Mathlib.Nat.{suc-ne-zero}
+use mathlib.Core.Bool.{false}
+use mathlib.Core.List.{List}
+use lib.ListN.{length}
+use lib.Dec.{T}
+use Rattle.machine.specs.Codes.{threeRates}
+use Rattle.machine.specs.Limits.{mostPairs}
+use Rattle.machine.specs.Channel.{lent, getList, setList}
+use Rattle.machine.specs.Device.{lentBy, call}
+use Rattle.layout.specs.Memory.{valid}
+use Rattle.layout.specs.Promise.{Found}
+use Rattle.layout.proofs.Entry.{not-valid}
+use Rattle.layout.proofs.Calls.{Known}
+use Rattle.layout.proofs.Lists.{found-ready, set-over, get-over}
+use Rattle.finding.specs.Placed.{Placed}
+use Rattle.device_lists.specs.Lists.{Begun}
+
+pub known : Known threeRates
+known r t = t
+
+module _ (m : List ℕ) (k n : ℕ) where
+  pub no-memory : valid m ≡ false → Begun m k n 0x1A m
+  unfolding lentBy lent
+  no-memory v =
+      record {
+        set-refused = λ z ps e. not-valid threeRates m (call k (setList ps)) v;
+        get-refused = λ z ps e. not-valid threeRates m (call k (getList ps)) v;
+        good = λ z. absurd (suc-ne-zero 25 z);
+        base = 0;
+        found = λ z. absurd (suc-ne-zero 25 z);
+        few = λ z. absurd (suc-ne-zero 25 z);
+        stays = λ z. refl;
+      }
+
+  pub no-channel : {base : ℕ} → Placed m k base → base ≡ 0 → Begun m k n 0x02 m
+  unfolding lent
+  no-channel p b =
+      record {
+        set-refused = λ z ps e. p .refused b threeRates (setList ps);
+        get-refused = λ z ps e. p .refused b threeRates (getList ps);
+        good = λ z. absurd (suc-ne-zero 1 z);
+        base = 0;
+        found = λ z. absurd (suc-ne-zero 1 z);
+        few = λ z. absurd (suc-ne-zero 1 z);
+        stays = λ z. refl;
+      }
+
+  module _ (v : T (valid m)) {base : ℕ} (f : Found m k base) where
+    pub too-many : mostPairs < n → Begun m k n 0x04 m
+    too-many h =
+        let r = found-ready m v k base f in
+        record {
+          set-refused = λ z ps e. set-over threeRates known m k r ps (subst (λ (j : ℕ). mostPairs < j) (sym e) h);
+          get-refused = λ z ps e. get-over threeRates known m k r ps (subst (λ (j : ℕ). mostPairs < j) (sym e) h);
+          good = λ z. v;
+          base = base;
+          found = λ z. f;
+          few = λ z. absurd (suc-ne-zero 3 z);
+          stays = λ z. refl;
+        }
+
+    pub begins : n ≤ mostPairs → Begun m k n 0 m
+    begins h = record { set-refused = λ z ps e. absurd (z refl); get-refused = λ z ps e. absurd (z refl); good = λ z. v; base = base; found = λ z. f; few = λ z. h; stays = λ z. refl }
