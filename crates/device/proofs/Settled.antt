@@ -1,4 +1,4 @@
--- ANY TWO OUTCOMES OF A PUBLIC CALL ARE EQUAL: said of each of the 17 calls and of the look at the memory, over the very postcondition that the
+-- ANY TWO OUTCOMES OF A PUBLIC CALL ARE EQUAL: said of each of the 18 calls and of the look at the memory, over the very postcondition that the
 -- function is proved to meet.
 -- An outcome is what the function returns and what it leaves in the memory and in a lent buffer. Assumes nothing.
 use mathlib.Core.Path.{sym, ap, _∙_}
@@ -15,6 +15,8 @@ use Rattle.device_channels.proofs.connect.Kinds as connect-kinds
 use Rattle.device_channels.proofs.connect.Reads as connect
 use Rattle.device_channels.proofs.get.Kinds as get-kinds
 use Rattle.device_channels.proofs.get.Reads as get
+use Rattle.device_channels.proofs.last_error.Kinds as last-error-kinds
+use Rattle.device_channels.proofs.last_error.Reads as last-error
 use Rattle.device_channels.proofs.set.Kinds as set-kinds
 use Rattle.device_channels.proofs.set.Reads as set
 use Rattle.device_channels.proofs.disconnect.Kinds as disconnect-kinds
@@ -62,7 +64,10 @@ pub connect-settled : OneOutcome 1 connect-kinds.ps connect-kinds.r connect.Post
 connect-settled κs a x y p q = ap (λ (s : Result). (record { code = s .code; value = s .value }, (s .memory, x .1 .1))) (p ∙ sym q)
 
 pub get-settled : OneOutcome 1 get-kinds.ps get-kinds.r get.Post
-get-settled κs a x y p q = ap (λ (s : Result). (record { code = s .code; value = s .value }, x .1)) (p ∙ sym q)
+get-settled κs a x y p q = ap (λ (s : Result). (record { code = s .code; value = s .value }, (s .memory, x .1 .1))) (p ∙ sym q)
+
+pub last-error-settled : OneOutcome 1 last-error-kinds.ps last-error-kinds.r last-error.Post
+last-error-settled κs a x y p q = ap (λ (s : Result). (record { code = s .code; value = s .value }, x .1)) (p ∙ sym q)
 
 pub set-settled : OneOutcome 1 set-kinds.ps set-kinds.r set.Post
 set-settled κs a x y p q = ap (λ (s : Result). (s .code, (s .memory, x .1 .1))) (p ∙ sym q)

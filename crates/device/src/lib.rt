@@ -1,9 +1,10 @@
-// The 17 public calls of the box, on any bytes that are lent as its memory: each looks at the memory first, then does the call. The look itself
+// The 18 public calls of the box, on any bytes that are lent as its memory: each looks at the memory first, then does the call. The look itself
 // is `valid`.
 pub use device_channels::clear;
 pub use device_channels::connect;
 pub use device_channels::disconnect;
 pub use device_channels::get;
+pub use device_channels::last_error;
 pub use device_channels::set;
 pub use device_lines::advance;
 pub use device_lines::close;

@@ -1,10 +1,10 @@
-// A channel is opened, set up and closed, on any bytes that are lent as the memory: connect, disconnect, get, set, clear.
+// A channel is opened, set up, asked and closed, on any bytes that are lent as the memory: connect, disconnect, get, set, clear, last error.
 ghost use mathlib.Core.Path.{_≡_};
 ghost use mathlib.Core.List.{[]};
 ghost use Rattle.machine.specs.Codes.{threeRates};
 ghost use Rattle.machine.specs.Channel.{disconnect as disconnects};
 ghost use Rattle.machine.specs.Channel.{clear as clears};
-ghost use Rattle.machine.specs.Channel.{getParameter, setParameter};
+ghost use Rattle.machine.specs.Channel.{getParameter, setParameter, lastError};
 ghost use Rattle.machine.specs.Device.{call};
 ghost use Rattle.machine.specs.Device.{connect as connects};
 ghost use Rattle.layout.specs.Promise.{gives, outcome};
@@ -26,8 +26,8 @@ pub fn connect(mem: &mut [u8], line: u32, protocol: u32, flags: u32, rate: u32) 
 }
 
 // A parameter's value.
-pub fn get(mem: &[u8], channel: u32, parameter: u32) -> Answer
-    ensures { λ a. ⌜ gives (a .code) (a .value) [] (now (mem .entry)) ≡ outcome threeRates (now (mem .entry)) (call channel (getParameter parameter)) ⌝ }
+pub fn get(mem: &mut [u8], channel: u32, parameter: u32) -> Answer
+    ensures { λ a. ⌜ gives (a .code) (a .value) [] (now (mem .exit)) ≡ outcome threeRates (now (mem .entry)) (call channel (getParameter parameter)) ⌝ }
 {
     if !validity::valid(mem) {
         return Answer {
@@ -67,4 +67,17 @@ pub fn clear(mem: &mut [u8], channel: u32, kind: u32) -> u32
         return codes::ERR_INVALID_DEVICE_ID;
     }
     owned_channels::clear(mem, channel, kind)
+}
+
+// What went wrong last on a channel; asking changes nothing.
+pub fn last_error(mem: &[u8], channel: u32) -> Answer
+    ensures { λ a. ⌜ gives (a .code) (a .value) [] (now (mem .entry)) ≡ outcome threeRates (now (mem .entry)) (call channel lastError) ⌝ }
+{
+    if !validity::valid(mem) {
+        return Answer {
+            code: codes::ERR_INVALID_DEVICE_ID,
+            value: 0,
+        };
+    }
+    owned_channels::last_error(mem, channel)
 }

@@ -9,7 +9,7 @@ use lib.ListN.{length, getD, set, take, drop, length-drop}
 use lib.Dec.{T, eqb, eqb→eq}
 use Rattle.machine.specs.Codes.{threeRates}
 use Rattle.machine.specs.Limits.{mostPairs}
-use Rattle.machine.specs.Channel.{Answer, says, Outcome, Pairs, flat, getParameter, setParameter, getList, setList, onCall, onOpen}
+use Rattle.machine.specs.Channel.{Answer, says, Outcome, Pairs, flat, getParameter, setParameter, getList, setList, onCall, onOpen, noted}
 use Rattle.machine.specs.Device.{Device, call, step}
 use Rattle.machine.proofs.Parameters.{get-few}
 use Rattle.machine.proofs.Pairs.{step-open}
@@ -116,7 +116,7 @@ module _ (k : ℕ) (m : List ℕ) (r : Ready m k) where
 
   -- a list's answer is its code alone
   no-value : (ps : Pairs) → length ps ≤ mostPairs → outcome threeRates m (call k (getList ps)) .value ≡ 0
-  unfolding onCall onOpen says
+  unfolding onCall onOpen says noted
   no-value ps few =
       subst (λ (j : ℕ). outcome threeRates m (call j (getList ps)) .value ≡ 0) (sym (r .number))
       (ap (λ (x : Result). x .value) (in-steps threeRates known m (r .good) (call (r .line + 1) (getList ps)))

@@ -22,7 +22,7 @@ pub struct Pair {
 // The most pairs of a list.
 const MOST: usize = 16;
 
-// Whether a list of n pairs is begun: the code that refuses it before any pair, else 0.
+// Whether a list of n pairs is begun: the code that refuses it before any pair, noted where the channel is open, else 0.
 fn begin(mem: &mut [u8], channel: u32, n: usize) -> u32
     ensures { λ c. ⌜ Begun (now (mem .entry)) channel n c (now (mem .exit)) ⌝ }
 {
@@ -34,6 +34,7 @@ fn begin(mem: &mut [u8], channel: u32, n: usize) -> u32
         return codes::ERR_INVALID_CHANNEL_ID;
     }
     if n > MOST {
+        noting::note(mem, a, codes::ERR_NULL_PARAMETER);
         return codes::ERR_NULL_PARAMETER;
     }
     codes::STATUS_NOERROR

@@ -19,7 +19,7 @@ use Rattle.machine.proofs.Isolation.{different-apart}
 use Rattle.layout.specs.Sizes.{memorySize}
 use Rattle.layout.specs.Memory.{image, load, valid}
 use Rattle.layout.specs.Promise.{Result, answerOf, outcome, powerOnOutcome}
-use Rattle.layout.specs.Runs.{leaves, switchedOn, NothingChanged, SetListEnded, GetListEnded, AsMachine, Untouched, Commute, Reordered}
+use Rattle.layout.specs.Runs.{leaves, switchedOn, NothingElseChanged, SetListEnded, GetListEnded, AsMachine, Untouched, Commute, Reordered}
 use Rattle.layout.specs.Reach.{AllBytes}
 use Rattle.layout.proofs.Memory.{valid-image}
 use Rattle.layout.proofs.Sizes.{power-on-zeros}
@@ -36,16 +36,16 @@ known r t = t
 pub switched-on : (bytes : List ℕ) → length bytes ≡ memorySize → switchedOn bytes ≡ zeros memorySize
 switched-on bytes right = ap (λ (r : Result). r .memory) (started bytes right)
 
--- ---- DEMAND 1: a refused call changes neither the device memory nor any lent buffer
+-- ---- DEMAND 1: a refused call changes neither the device memory nor any lent buffer, but for the last code of the channel that it names, a byte
 
 -- on whatever bytes are lent as the memory, 0x1A among the refusals
-pub refused-changes-nothing : (m : List ℕ) (e : Event) → refusal e (answerOf (outcome threeRates m e)) ≡ true → NothingChanged threeRates m e
-refused-changes-nothing m e h = let k = refusal-leaves threeRates m e h in record { memory = k .0; buffer = k .1 }
+pub refused-changes-nothing-else : (m : List ℕ) (e : Event) → refusal e (answerOf (outcome threeRates m e)) ≡ true → NothingElseChanged threeRates m e
+refused-changes-nothing-else = refusal-leaves threeRates
 
 -- from power-on on: after any calls es, a call e that is refused
 pub refused-from-power-on : (bytes : List ℕ) (es : List Event) (e : Event)
-    → refusal e (answerOf (outcome threeRates (leaves threeRates (switchedOn bytes) es) e)) ≡ true → NothingChanged threeRates (leaves threeRates (switchedOn bytes) es) e
-refused-from-power-on bytes es e = refused-changes-nothing (leaves threeRates (switchedOn bytes) es) e
+    → refusal e (answerOf (outcome threeRates (leaves threeRates (switchedOn bytes) es) e)) ≡ true → NothingElseChanged threeRates (leaves threeRates (switchedOn bytes) es) e
+refused-from-power-on bytes es e = refused-changes-nothing-else (leaves threeRates (switchedOn bytes) es) e
 
 -- a list of parameters that a pair ended (02, P2, amends the demand for lists only), on whatever bytes are lent as the memory: a set leaves what its
 -- accepted pairs leave, a get leaves the refused pair and all behind it

@@ -8,21 +8,23 @@ use mathlib.Core.Bool.{Bool, true, false, true≢false}
 use mathlib.Core.List.{List, [], _∷_, _++_}
 use lib.ListN.{length, getD, take, drop}
 use lib.Dec.{T}
+use borrow.Rule.Slice.PartMut.{midOf}
 use Rattle.codec.specs.Plain.{member}
 use Rattle.codec.proofs.Tests.{true-T}
 use Rattle.machine.specs.Limits.{lines, mostPairs}
-use Rattle.machine.specs.Channel.{Open, Chan, opened, Answer, says, Pairs, flat, getParameter, setParameter, getList, setList}
+use Rattle.machine.specs.Channel.{Open, Chan, opened, Answer, says, Pairs, flat, getParameter, setParameter, getList, setList, onOpen}
 use Rattle.machine.specs.Device.{Device, Event, call, lentBy, chanAt, step}
 use Rattle.machine.specs.Demands.{pairCodes, SetEnded, GetEnded}
-use Rattle.machine.proofs.Pairs.{OpenAt, set-none, get-none, set-over as over-set, get-over as over-get, SetGoes, set-step, set-stop, get-leaves-all, get-step, get-stop, set-ended, get-ended}
+use Rattle.machine.proofs.Parameters.{set-many, get-many}
+use Rattle.machine.proofs.Pairs.{OpenAt, set-none, get-none, SetGoes, set-step, set-stop, get-leaves-all, get-step, get-stop, set-ended, get-ended}
 use Rattle.layout.specs.Sizes.{regionAt, regionSize}
 use Rattle.layout.specs.Memory.{memory, image, load, valid, region}
-use Rattle.layout.specs.Promise.{Result, gives, answered, outcome, Opened, Found}
+use Rattle.layout.specs.Promise.{Result, gives, answered, outcome, Opened, Found, notedIn}
 use Rattle.layout.specs.Reach.{Bytes}
 use Rattle.layout.specs.Runs.{SetListEnded, GetListEnded}
 use Rattle.layout.proofs.Memory.{image-load, load-image, ok-load, valid-image}
-use Rattle.layout.proofs.Region.{openOf, is-open}
-use Rattle.layout.proofs.Entry.{four, by-step, not-valid, region-got, opened-here, on-line}
+use Rattle.layout.proofs.Region.{openOf, is-open, stays}
+use Rattle.layout.proofs.Entry.{four, by-step, not-valid, region-got, opened-here, on-line, region-lent, looked}
 use Rattle.layout.proofs.Calls.{Known}
 use Rattle.layout.proofs.Reach.{step-ok}
 use Rattle.layout.proofs.Isolation.{outcome-is}
@@ -48,6 +50,23 @@ found-ready m v k base f =
       channel = openOf r;
       there = record { line = line; four = four m v; is = sym (region-got m v (k - 1) line) ∙ is-open r o };
     }
+
+-- more than 16 pairs are refused before any, and the code is noted
+module _ (rates m : List ℕ) (v : T (valid m)) (k base : ℕ) (f : Found m k base) (ps : Pairs) (h : mostPairs < length ps) (zs : List ℕ) (n : zs ≡ notedIn base 0x04 m) where
+  abbrev lent-region : List ℕ
+  lent-region = midOf base (base + regionSize - base) m
+
+  pub set-over : gives 0x04 0 [] zs ≡ outcome rates m (call k (setList ps))
+  unfolding onOpen
+  set-over =
+      looked m v k base f rates (setList ps) 4 0 []
+      (stays lent-region (region-lent m v k base f) rates (load m .clock) (setList ps) 4 0 [] (set-many rates (openOf lent-region) ps h)) zs n
+
+  pub get-over : gives 0x04 0 (flat ps) zs ≡ outcome rates m (call k (getList ps))
+  unfolding onOpen
+  get-over =
+      looked m v k base f rates (getList ps) 4 0 (flat ps)
+      (stays lent-region (region-lent m v k base f) rates (load m .clock) (getList ps) 4 0 (flat ps) (get-many rates (openOf lent-region) ps h)) zs n
 
 module _ (rates : List ℕ) (known : Known rates) where
   -- what a step of the machine is in bytes
@@ -89,19 +108,6 @@ module _ (rates : List ℕ) (known : Known rates) where
     get-ends =
         renumbered (λ j. gives 0 0 [] m ≡ outcome rates m (call j (getList [])))
         (ap (λ (x : List ℕ). gives 0 0 [] x) (sym (image-load m (r .good))) ∙ sym (told m (r .good) _ ∙ ap inBytes (get-none rates d (r .line) (r .channel) (r .there))))
-
-    -- more than 16 pairs
-    pub set-over : (ps : Pairs) → mostPairs < length ps → gives 0x04 0 [] m ≡ outcome rates m (call k (setList ps))
-    unfolding says
-    set-over ps h =
-        renumbered (λ j. gives 0x04 0 [] m ≡ outcome rates m (call j (setList ps)))
-        (ap (λ (x : List ℕ). gives 0x04 0 [] x) (sym (image-load m (r .good))) ∙ sym (told m (r .good) _ ∙ ap inBytes (over-set rates d (r .line) (r .channel) (r .there) ps h)))
-
-    pub get-over : (ps : Pairs) → mostPairs < length ps → gives 0x04 0 (flat ps) m ≡ outcome rates m (call k (getList ps))
-    unfolding says
-    get-over ps h =
-        renumbered (λ j. gives 0x04 0 (flat ps) m ≡ outcome rates m (call j (getList ps)))
-        (ap (λ (x : List ℕ). gives 0x04 0 (flat ps) x) (sym (image-load m (r .good))) ∙ sym (told m (r .good) _ ∙ ap inBytes (over-get rates d (r .line) (r .channel) (r .there) ps h)))
 
     module _ (p : ℕ × ℕ) (ps : Pairs) (h : length (p ∷ ps) ≤ mostPairs) where
       -- a set that is accepted: the channel stays open, and the rest of the list does what the list does

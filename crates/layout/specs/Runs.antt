@@ -1,15 +1,16 @@
 -- CALLS IN A ROW on one lent memory: what each gives, what they leave, what of both is one channel's, and the words of the three demands over them,
 -- in bytes. Channels go by their line: channel number c is that of line c - 1. Assumes nothing.
-use Prim.Native.Nat.{ℕ, _<_}
+use Prim.Native.Nat.{ℕ, _+_, _-_, _<_}
 use mathlib.Core.Path.{_≡_}
 use mathlib.Core.List.{List, [], _∷_, _++_}
-use lib.ListN.{take, drop}
-use Rattle.codec.specs.Plain.{if_then_else_}
+use lib.ListN.{getD, set, take, drop}
+use lib.Dec.{eqb}
+use Rattle.codec.specs.Plain.{if_then_else_, member}
 use Rattle.machine.specs.Limits.{lines}
 use Rattle.machine.specs.Channel.{Answer, Pairs, flat, getParameter, setParameter, getList, setList}
-use Rattle.machine.specs.Device.{Device, Event, call, lentBy, run, answers}
+use Rattle.machine.specs.Device.{Device, Event, connect, call, frame, advance, close, lentBy, run, answers}
 use Rattle.machine.specs.Demands.{concerns, strike}
-use Rattle.layout.specs.Sizes.{numberSize, regionAt, regionSize}
+use Rattle.layout.specs.Sizes.{numberSize, regionAt, regionSize, lastAt}
 use Rattle.layout.specs.Memory.{image}
 use Rattle.layout.specs.Promise.{answerOf, outcome, powerOnOutcome}
 
@@ -51,9 +52,22 @@ clockOf m = take numberSize m
 
 -- ---- DEMAND 1
 
--- the call changes neither the device memory nor the lent buffer
-pub record NothingChanged (rates m : List ℕ) (e : Event) : Type 0 where
-  pub memory : outcome rates m e .memory ≡ m
+-- the memory, and only the last code of the channel of a line has become this one; where the channel isn't open, the memory
+unfoldable pub lastBecomes : ℕ → ℕ → List ℕ → List ℕ
+lastBecomes line code m = if eqb (getD m (regionAt line) 0) 1 then set m (regionAt line + lastAt) code else m
+
+-- ALL THAT A REFUSAL LEAVES BEHIND in the memory, a byte: its code, as the last of the open channel that a call names (neither 0x02 nor 0x1A names
+-- one), or that a connect finds in use
+unfoldable pub remembered : Event → ℕ → List ℕ → List ℕ
+remembered (connect l p f r) code m = if eqb code 0x14 then lastBecomes l code m else m
+remembered (call k x) code m = if member code (0x02 ∷ 0x1A ∷ []) then m else lastBecomes (k - 1) code m
+remembered (frame l w n b) code m = m
+remembered (advance t) code m = m
+remembered close code m = m
+
+-- the call changes neither the device memory nor the lent buffer, but for that byte
+pub record NothingElseChanged (rates m : List ℕ) (e : Event) : Type 0 where
+  pub memory : outcome rates m e .memory ≡ remembered e (outcome rates m e .code) m
   pub buffer : outcome rates m e .buffer ≡ lentBy e
 
 -- A LIST OF PARAMETERS THAT A PAIR ENDED (02, P2, amends the demand for lists only): in front of that pair stand accepted ones. A set gives and leaves

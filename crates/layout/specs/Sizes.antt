@@ -91,8 +91,12 @@ lostAt = receivingAt + queueSize
 abbrev pub receivingEnd : ℕ
 receivingEnd = receivingAt + receivingSize
 
+-- the last code
+abbrev pub lastAt : ℕ
+lastAt = receivingEnd
+
 abbrev pub regionSize : ℕ
-regionSize = receivingEnd
+regionSize = lastAt + 1
 
 -- ---- the memory: the clock, then the region of each line
 abbrev pub regionAt : ℕ → ℕ

@@ -1,15 +1,16 @@
 -- DEMANDS 1 AND 3 FROM POWER-ON, in the demands' own words: whatever has happened to the box since, and for any set of rates. No premise on the
 -- device is left. Channels go by their line: channel number c is that of line c - 1. Assumes nothing.
-use Prim.Native.Nat.{ℕ, _<_}
+use Prim.Native.Nat.{ℕ, _≤_, _<_}
 use mathlib.Core.Path.{_≡_, refl}
 use mathlib.Core.Logic.{_≢_}
 use mathlib.Core.Bool.{true, false}
 use mathlib.Core.List.{List, _∷_}
+use lib.ListN.{length}
 use Rattle.codec.specs.Plain.{member}
-use Rattle.machine.specs.Limits.{lines}
-use Rattle.machine.specs.Channel.{Call, Pairs, flat, getParameter, setParameter, getList, setList}
+use Rattle.machine.specs.Limits.{lines, mostPairs}
+use Rattle.machine.specs.Channel.{Call, Pairs, flat, getParameter, setParameter, getList, setList, says}
 use Rattle.machine.specs.Device.{Event, call, lentBy, powerOn, chanAt, step, run, answers}
-use Rattle.machine.specs.Demands.{FourChannels, pairCodes, refusal, SetEnded, GetEnded, concerns, strike, answersOf, Projected, Exchanged, SameToEach, Arranged, Ignored, Names, byCall}
+use Rattle.machine.specs.Demands.{FourChannels, pairCodes, refusal, remembers, SetEnded, GetEnded, concerns, strike, answersOf, Projected, Exchanged, SameToEach, Arranged, Ignored, Names, byCall}
 use Rattle.machine.proofs.Dispatch.{run-channels-kept}
 use Rattle.machine.proofs.Pairs.{set-ended, get-ended, set-at-once, get-at-once}
 use Rattle.machine.proofs.Refusals.{refused-leaves}
@@ -23,10 +24,12 @@ module _ (rates : List ℕ) where
 
   -- ---- demand 1
 
-  -- A REFUSED CALL CHANGES NOTHING: after any events it leaves the whole box and the lent buffer as they were
-  pub refused-changes-nothing : (es : List Event) (e : Event) → refusal e (step rates (run rates powerOn es) e .1) ≡ true
-      → (step rates (run rates powerOn es) e .0 ≡ run rates powerOn es) × (step rates (run rates powerOn es) e .1 .buffer ≡ lentBy e)
-  refused-changes-nothing es e = refused-leaves rates (run rates powerOn es) e (four es)
+  -- A REFUSED CALL CHANGES NOTHING BUT THE LAST CODE of the channel that it names, which becomes its code: after any events it leaves the whole box
+  -- beside it and the lent buffer as they were
+  pub refused-changes-nothing-else : (es : List Event) (e : Event) → refusal e (step rates (run rates powerOn es) e .1) ≡ true
+      → (step rates (run rates powerOn es) e .0 ≡ remembers e (step rates (run rates powerOn es) e .1 .code) (run rates powerOn es))
+      × (step rates (run rates powerOn es) e .1 .buffer ≡ lentBy e)
+  refused-changes-nothing-else es e = refused-leaves rates (run rates powerOn es) e (four es)
 
   -- A LIST OF PARAMETERS THAT A PAIR ENDED (02, P2, amends the demand for lists only), after any events: a set leaves what its accepted pairs leave, a
   -- get leaves the refused pair and all behind it
@@ -36,13 +39,14 @@ module _ (rates : List ℕ) where
   pub get-list-ended : (es : List Event) (k : ℕ) (ps : Pairs) → member (step rates (run rates powerOn es) (call k (getList ps)) .1 .code) pairCodes ≡ true → GetEnded rates (run rates powerOn es) k ps
   get-list-ended es k ps = get-ended rates (run rates powerOn es) (four es) k ps
 
-  -- a list whose first pair would be refused alone changes nothing at all
-  pub set-list-at-once : (es : List Event) (k : ℕ) (p : ℕ × ℕ) (ps : Pairs) → step rates (run rates powerOn es) (call k (setParameter (p .0) (p .1))) .1 .code ≢ 0x00
-      → step rates (run rates powerOn es) (call k (setList (p ∷ ps))) .0 ≡ run rates powerOn es
+  -- a list whose first pair is refused alone gives and leaves what that single call does, which is such a refusal
+  pub set-list-at-once : (es : List Event) (k : ℕ) (p : ℕ × ℕ) (ps : Pairs) → length (p ∷ ps) ≤ mostPairs → step rates (run rates powerOn es) (call k (setParameter (p .0) (p .1))) .1 .code ≢ 0x00
+      → step rates (run rates powerOn es) (call k (setList (p ∷ ps))) ≡ step rates (run rates powerOn es) (call k (setParameter (p .0) (p .1)))
   set-list-at-once es k p ps = set-at-once rates (run rates powerOn es) (four es) k p ps
 
-  pub get-list-at-once : (es : List Event) (k : ℕ) (p : ℕ × ℕ) (ps : Pairs) → step rates (run rates powerOn es) (call k (getParameter (p .0))) .1 .code ≢ 0x00
-      → (step rates (run rates powerOn es) (call k (getList (p ∷ ps))) .0 ≡ run rates powerOn es) × (step rates (run rates powerOn es) (call k (getList (p ∷ ps))) .1 .buffer ≡ flat (p ∷ ps))
+  pub get-list-at-once : (es : List Event) (k : ℕ) (p : ℕ × ℕ) (ps : Pairs) → length (p ∷ ps) ≤ mostPairs → step rates (run rates powerOn es) (call k (getParameter (p .0))) .1 .code ≢ 0x00
+      → step rates (run rates powerOn es) (call k (getList (p ∷ ps)))
+      ≡ (step rates (run rates powerOn es) (call k (getParameter (p .0))) .0, says (step rates (run rates powerOn es) (call k (getParameter (p .0))) .1 .code) 0 (flat (p ∷ ps)))
   get-list-at-once es k p ps = get-at-once rates (run rates powerOn es) (four es) k p ps
 
   -- ---- demand 3

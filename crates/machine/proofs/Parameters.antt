@@ -9,7 +9,7 @@ use mathlib.Core.List.{List, [], _∷_, map}
 use mathlib.Core.Logic.{_⊎_, inl, inr}
 use lib.ListN.{length}
 use lib.Dec.{eqb, ltb}
-use borrow.Author.Tests.{eq-eqb, ne-eqb, lt-ltb, le-ltb, ltb-true, ltb-false}
+use borrow.Author.Tests.{eq-eqb, ne-eqb, lt-ltb, le-ltb}
 use Rattle.codec.specs.Plain.{if_then_else_, within, member}
 use Rattle.machine.specs.Codes.{codeOf}
 use Rattle.machine.specs.Limits.{mostPairs}
@@ -119,36 +119,3 @@ module _ (rates : List ℕ) (o : Open) where
   pub get-many : (ps : Pairs) → mostPairs < length ps → onGetList o ps ≡ (opened o, says 0x04 0 (flat ps))
   unfolding onGetList unless
   get-many ps h = rw (many-code ps h) refl
-
-  -- a list whose first pair is refused leaves the channel and the list, whatever is behind that pair
-  pub set-first-refused : (p : ℕ × ℕ) (ps : Pairs) → (setIn rates (o .config) (p .0) (p .1) .0 ≡ 0 → ⊥) → onSetList rates o (p ∷ ps) .0 ≡ opened o
-  unfolding setTo withConfig
-  set-first-refused p ps n = by (ltb mostPairs (length (p ∷ ps))) refl
-    where
-      kept : (setIn rates (o .config) (p .0) (p .1) .0 ≡ 0 → ⊥) → setTo o (setIn rates (o .config) (p .0) (p .1)) .0 ≡ opened o
-      kept = set-case (λ (r : ℕ × Config). (r .0 ≡ 0 → ⊥) → setTo o r .0 ≡ opened o) rates (o .config) (p .0) (p .1) (λ c h. absurd (h refl)) (λ h. refl) (λ h. refl)
-
-      by : (b : Bool) → ltb mostPairs (length (p ∷ ps)) ≡ b → onSetList rates o (p ∷ ps) .0 ≡ opened o
-      by true t = ap (λ (x : Outcome). x .0) (set-many (p ∷ ps) (ltb-true mostPairs (length (p ∷ ps)) t))
-      by false t =
-          ap (λ (x : Outcome). x .0) (set-few (p ∷ ps) (ltb-false mostPairs (length (p ∷ ps)) t) ∙ ap (setTo o) (set-no-more rates (o .config) p ps n))
-          ∙ kept n
-
-  pub get-first-refused : (p : ℕ × ℕ) (ps : Pairs) → (getIn (o .config) (p .0) .0 ≡ 0 → ⊥) → onGetList o (p ∷ ps) .1 .buffer ≡ flat (p ∷ ps)
-  unfolding says
-  get-first-refused p ps n = by (ltb mostPairs (length (p ∷ ps))) refl
-    where
-      by : (b : Bool) → ltb mostPairs (length (p ∷ ps)) ≡ b → onGetList o (p ∷ ps) .1 .buffer ≡ flat (p ∷ ps)
-      by true t = ap (λ (x : Outcome). x .1 .buffer) (get-many (p ∷ ps) (ltb-true mostPairs (length (p ∷ ps)) t))
-      by false t =
-          ap (λ (x : Outcome). x .1 .buffer) (get-few (p ∷ ps) (ltb-false mostPairs (length (p ∷ ps)) t))
-          ∙ ap (λ (r : ℕ × Pairs). flat (r .1)) (get-no-more (o .config) p ps n)
-
-  -- a get leaves the channel
-  pub get-keeps : (ps : Pairs) → onGetList o ps .0 ≡ opened o
-  unfolding onGetList unless
-  get-keeps ps = by (listCode ps)
-    where
-      by : (k : ℕ) → unless k (opened o) (flat ps) (opened o, says (getAll (o .config) ps .0) 0 (flat (getAll (o .config) ps .1))) .0 ≡ opened o
-      by zero = refl
-      by (suc k) = refl

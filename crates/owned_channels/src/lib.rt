@@ -1,11 +1,11 @@
-// A channel is opened, set up and closed, on a memory known to be valid: connect, disconnect, get, set, clear.
+// A channel is opened, set up, asked and closed, on a memory known to be valid: connect, disconnect, get, set, clear, last error.
 ghost use mathlib.Core.Path.{_≡_};
 ghost use mathlib.Core.List.{List, []};
 ghost use Prim.Native.Nat.{ℕ};
 ghost use lib.Dec.{T};
 ghost use Rattle.machine.specs.Channel.{disconnect as disconnects};
 ghost use Rattle.machine.specs.Channel.{clear as clears};
-ghost use Rattle.machine.specs.Channel.{getParameter, setParameter};
+ghost use Rattle.machine.specs.Channel.{getParameter, setParameter, lastError};
 ghost use Rattle.machine.specs.Device.{call};
 ghost use Rattle.machine.specs.Device.{connect as connects};
 ghost use Rattle.layout.specs.Memory.{valid};
@@ -15,7 +15,7 @@ use places::LINES;
 use places::REGION;
 use places::REGIONS;
 
-// Opens the channel of a line, at one of the rates.
+// Opens the channel of a line, at one of the rates; a channel in use notes it.
 pub fn connect(
     mem: &mut [u8],
     rates: &[u32],
@@ -39,7 +39,19 @@ pub fn connect(
         };
     }
     let a = REGIONS + index * REGION;
-    connecting::connect_in(&mut mem[a..a + REGION], rates, line, protocol, flags, rate)
+    let answer = connecting::connect_in(
+        &mut mem[a..a + REGION],
+        rates,
+        line,
+        protocol,
+        flags,
+        rate,
+    );
+    if answer.code != codes::ERR_CHANNEL_IN_USE {
+        return answer;
+    }
+    noting::note(mem, a, answer.code);
+    answer
 }
 
 // Closes a channel: its region becomes zeros.
@@ -64,13 +76,15 @@ pub fn clear(mem: &mut [u8], channel: u32, kind: u32) -> u32
     if a == 0 {
         return codes::ERR_INVALID_CHANNEL_ID;
     }
-    settings::clear_in(&mut mem[a..a + REGION], kind)
+    let code = settings::clear_in(&mut mem[a..a + REGION], kind);
+    noting::note(mem, a, code);
+    code
 }
 
 // A parameter's value.
-pub fn get(mem: &[u8], channel: u32, parameter: u32) -> Answer
+pub fn get(mem: &mut [u8], channel: u32, parameter: u32) -> Answer
     requires { ⌜ T (valid (now mem)) ⌝ }
-    ensures { λ a. ⌜ ((rates : List ℕ) → gives (a .code) (a .value) [] (now (mem .entry)) ≡ outcome rates (now (mem .entry)) (call channel (getParameter parameter))) ⌝ }
+    ensures { λ a. ⌜ ((rates : List ℕ) → gives (a .code) (a .value) [] (now (mem .exit)) ≡ outcome rates (now (mem .entry)) (call channel (getParameter parameter))) ⌝ }
 {
     let a = finding::region_of(mem, channel);
     if a == 0 {
@@ -79,7 +93,9 @@ pub fn get(mem: &[u8], channel: u32, parameter: u32) -> Answer
             value: 0,
         };
     }
-    settings::get_in(&mem[a..a + REGION], parameter)
+    let answer = settings::get_in(&mem[a..a + REGION], parameter);
+    noting::note(mem, a, answer.code);
+    answer
 }
 
 // A parameter's new value; a rate is one of the rates.
@@ -91,5 +107,26 @@ pub fn set(mem: &mut [u8], rates: &[u32], channel: u32, parameter: u32, value: u
     if a == 0 {
         return codes::ERR_INVALID_CHANNEL_ID;
     }
-    settings::set_in(&mut mem[a..a + REGION], rates, parameter, value)
+    let code = settings::set_in(&mut mem[a..a + REGION], rates, parameter, value);
+    noting::note(mem, a, code);
+    code
+}
+
+// What went wrong last on a channel; asking changes nothing.
+pub fn last_error(mem: &[u8], channel: u32) -> Answer
+    requires { ⌜ T (valid (now mem)) ⌝ }
+    ensures { λ a. ⌜ ((rates : List ℕ) → gives (a .code) (a .value) [] (now (mem .entry)) ≡ outcome rates (now (mem .entry)) (call channel lastError)) ⌝ }
+{
+    let a = finding::region_of(mem, channel);
+    if a == 0 {
+        return Answer {
+            code: codes::ERR_INVALID_CHANNEL_ID,
+            value: 0,
+        };
+    }
+    let value = noting::last_in(&mem[a..a + REGION]);
+    Answer {
+        code: codes::STATUS_NOERROR,
+        value,
+    }
 }

@@ -22,7 +22,9 @@ pub fn start_filter(mem: &mut [u8], channel: u32, kind: u32, mask: &[u8], patter
             value: 0,
         };
     }
-    filters::start_filter(&mut mem[a..a + REGION], kind, mask, pattern)
+    let answer = filters::start_filter(&mut mem[a..a + REGION], kind, mask, pattern);
+    noting::note(mem, a, answer.code);
+    answer
 }
 
 // A filter less.
@@ -34,7 +36,9 @@ pub fn stop_filter(mem: &mut [u8], channel: u32, number: u32) -> u32
     if a == 0 {
         return codes::ERR_INVALID_CHANNEL_ID;
     }
-    filters::stop_filter(&mut mem[a..a + REGION], number)
+    let code = filters::stop_filter(&mut mem[a..a + REGION], number);
+    noting::note(mem, a, code);
+    code
 }
 
 // A periodic more, by the smallest free number; it is pending at once.
@@ -49,7 +53,9 @@ pub fn start_periodic(mem: &mut [u8], channel: u32, message: &[u8], interval: u3
             value: 0,
         };
     }
-    periodics::start_periodic(&mut mem[a..a + REGION], message, interval)
+    let answer = periodics::start_periodic(&mut mem[a..a + REGION], message, interval);
+    noting::note(mem, a, answer.code);
+    answer
 }
 
 // A periodic less.
@@ -61,5 +67,7 @@ pub fn stop_periodic(mem: &mut [u8], channel: u32, number: u32) -> u32
     if a == 0 {
         return codes::ERR_INVALID_CHANNEL_ID;
     }
-    periodics::stop_periodic(&mut mem[a..a + REGION], number)
+    let code = periodics::stop_periodic(&mut mem[a..a + REGION], number);
+    noting::note(mem, a, code);
+    code
 }

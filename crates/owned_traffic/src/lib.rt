@@ -25,7 +25,9 @@ pub fn write(mem: &mut [u8], channel: u32, n: u32, buffer: &[u8]) -> Answer
             value: 0,
         };
     }
-    writing::write(&mut mem[a..a + REGION], n, buffer)
+    let answer = writing::write(&mut mem[a..a + REGION], n, buffer);
+    noting::note(mem, a, answer.code);
+    answer
 }
 
 // Moves the oldest received records to a buffer.
@@ -40,7 +42,9 @@ pub fn read(mem: &mut [u8], channel: u32, n: u32, buffer: &mut [u8]) -> Answer
             value: 0,
         };
     }
-    reading::read_in(&mut mem[a..a + REGION], n, buffer)
+    let answer = reading::read_in(&mut mem[a..a + REGION], n, buffer);
+    noting::note(mem, a, answer.code);
+    answer
 }
 
 // The frame to send next, to a buffer; it stays in flight.
@@ -52,7 +56,9 @@ pub fn take(mem: &mut [u8], channel: u32, buffer: &mut [u8]) -> u32
     if a == 0 {
         return codes::ERR_INVALID_CHANNEL_ID;
     }
-    taking::take(&mut mem[a..a + REGION], buffer)
+    let code = taking::take(&mut mem[a..a + REGION], buffer);
+    noting::note(mem, a, code);
+    code
 }
 
 // The frame in flight is on the line.
@@ -65,5 +71,7 @@ pub fn sent(mem: &mut [u8], channel: u32) -> u32
         return codes::ERR_INVALID_CHANNEL_ID;
     }
     let now = integers::word_at(mem, 0);
-    landing::sent(&mut mem[a..a + REGION], now)
+    let code = landing::sent(&mut mem[a..a + REGION], now);
+    noting::note(mem, a, code);
+    code
 }

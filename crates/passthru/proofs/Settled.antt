@@ -36,6 +36,8 @@ use Rattle.passthru.proofs.trawl_clear.Kinds as trawl-clear-kinds
 use Rattle.passthru.proofs.trawl_clear.Reads as trawl-clear
 use Rattle.passthru.proofs.trawl_get.Kinds as trawl-get-kinds
 use Rattle.passthru.proofs.trawl_get.Reads as trawl-get
+use Rattle.passthru.proofs.trawl_last_error.Kinds as trawl-last-error-kinds
+use Rattle.passthru.proofs.trawl_last_error.Reads as trawl-last-error
 use Rattle.passthru.proofs.trawl_set.Kinds as trawl-set-kinds
 use Rattle.passthru.proofs.trawl_set.Reads as trawl-set
 use Rattle.passthru.proofs.trawl_read_telegram.Kinds as trawl-read-telegram-kinds
@@ -100,7 +102,10 @@ pub trawl-clear-settled : OneOutcome 1 trawl-clear-kinds.ps trawl-clear-kinds.r 
 trawl-clear-settled κs a x y p q = alike (p ∙ sym q) (λ s. (s .code, (s .memory, x .1 .1)))
 
 pub trawl-get-settled : OneOutcome 2 trawl-get-kinds.ps trawl-get-kinds.r trawl-get.Post
-trawl-get-settled κs a x y p q = alike (p ∙ sym q) (λ s. (s .code, (tt, (tt, (tt, (s .value, tt))))))
+trawl-get-settled κs a x y p q = alike (p ∙ sym q) (λ s. (s .code, (s .memory, (tt, (tt, (s .value, tt))))))
+
+pub trawl-last-error-settled : OneOutcome 2 trawl-last-error-kinds.ps trawl-last-error-kinds.r trawl-last-error.Post
+trawl-last-error-settled κs a x y p q = alike (p ∙ sym q) (λ s. (s .code, (tt, (tt, (s .value, tt)))))
 
 pub trawl-set-settled : OneOutcome 1 trawl-set-kinds.ps trawl-set-kinds.r trawl-set.Post
 trawl-set-settled κs a x y p q = alike (p ∙ sym q) (λ s. (s .code, (s .memory, x .1 .1)))

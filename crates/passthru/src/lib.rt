@@ -4,7 +4,7 @@ ghost use mathlib.Core.List.{[]};
 ghost use mathlib.Core.Bool.{not};
 ghost use lib.Dec.{eqb};
 ghost use Rattle.machine.specs.Codes.{threeRates};
-ghost use Rattle.machine.specs.Channel.{disconnect, clear, write, read, takeNext, sent, startFilter, stopFilter, startPeriodic, stopPeriodic, getParameter, setParameter};
+ghost use Rattle.machine.specs.Channel.{disconnect, clear, write, read, takeNext, sent, startFilter, stopFilter, startPeriodic, stopPeriodic, getParameter, setParameter, lastError};
 ghost use Rattle.machine.specs.Device.{call, connect, close, advance, frame};
 ghost use Rattle.layout.specs.Memory.{valid};
 ghost use Rattle.layout.specs.Promise.{gives, outcome, powerOnOutcome};
@@ -192,8 +192,8 @@ pub extern "C" fn trawl_clear(mem: &mut [u8], channel: u32, kind: u32) -> u32
 
 // A parameter's value.
 #[no_mangle]
-pub extern "C" fn trawl_get(mem: &[u8], channel: u32, parameter: u32, value: &mut u32) -> u32
-    ensures { λ c. ⌜ gives c (now (value .exit)) [] (now (mem .entry)) ≡ outcome threeRates (now (mem .entry)) (call channel (getParameter parameter)) ⌝ }
+pub extern "C" fn trawl_get(mem: &mut [u8], channel: u32, parameter: u32, value: &mut u32) -> u32
+    ensures { λ c. ⌜ gives c (now (value .exit)) [] (now (mem .exit)) ≡ outcome threeRates (now (mem .entry)) (call channel (getParameter parameter)) ⌝ }
 {
     let answer = device::get(mem, channel, parameter);
     *value = answer.value;
@@ -206,6 +206,16 @@ pub extern "C" fn trawl_set(mem: &mut [u8], channel: u32, parameter: u32, value:
     ensures { λ c. ⌜ gives c 0 [] (now (mem .exit)) ≡ outcome threeRates (now (mem .entry)) (call channel (setParameter parameter value)) ⌝ }
 {
     device::set(mem, channel, parameter, value)
+}
+
+// What went wrong last on a channel; asking changes nothing.
+#[no_mangle]
+pub extern "C" fn trawl_last_error(mem: &[u8], channel: u32, code: &mut u32) -> u32
+    ensures { λ c. ⌜ gives c (now (code .exit)) [] (now (mem .entry)) ≡ outcome threeRates (now (mem .entry)) (call channel lastError) ⌝ }
+{
+    let answer = device::last_error(mem, channel);
+    *code = answer.value;
+    answer.code
 }
 
 // The record of the telegram that `bytes` are, over the start of a buffer: an opening one where `opening` is not 0, else one on a channel.

@@ -82,7 +82,9 @@ pub const LOST: usize = RECEIVING + QUEUE_SIZE;
 
 pub const RECEIVING_END: usize = RECEIVING + RECEIVING_SIZE;
 
-pub const REGION: usize = RECEIVING_END;
+pub const LAST: usize = RECEIVING_END;
+
+pub const REGION: usize = LAST + 1;
 // The memory: the clock, then the region of each line.
 pub const REGIONS: usize = NUMBER;
 
@@ -91,7 +93,7 @@ pub const REGIONS_SIZE: usize = LINES * REGION;
 pub const MEMORY: usize = REGIONS + REGIONS_SIZE;
 
 // Every number above, in order: those of the definitions.
-pub fn numbers() -> [usize; 42]
+pub fn numbers() -> [usize; 43]
     ensures { λ r. ⌜ r ≡ named ⌝ }
 {
     [
@@ -134,6 +136,7 @@ pub fn numbers() -> [usize; 42]
         RECEIVING,
         LOST,
         RECEIVING_END,
+        LAST,
         REGION,
         REGIONS_SIZE,
         MEMORY,

@@ -10,19 +10,24 @@ use lib.Dec.{leb}
 use borrow.Author.Tests.{eq-eqb, ne-eqb}
 use Rattle.codec.specs.Plain.{member, allZero}
 use Rattle.codec.specs.Word.{wordAt}
-use Rattle.codec.specs.Code.{Code, word32, both, bothOn, via, such, mark, many, slot, upTo, upToOne, validAll, validSlot}
+use Rattle.codec.specs.Code.{Code, byte, word32, both, bothOn, via, such, mark, many, slot, upTo, upToOne, validAll, validSlot}
 use Rattle.codec.proofs.Word.{word-part, word-drop}
-use Rattle.machine.specs.Codes.{threeRates}
+use Rattle.machine.specs.Codes.{threeRates, callCodes}
 use Rattle.machine.specs.Channel.{isFlags}
 use Rattle.machine.specs.Limits.{lines, mostWritten, mostToRead}
-use Rattle.layout.specs.Sizes.{numberSize, configSize, filtersSize, periodicsSize, writtenSize, flightSize, queueSize, sendingSize, receivingSize, flagsAt, filtersAt, periodicsAt, receivingAt, regionSize, memorySize}
+use Rattle.layout.specs.Sizes.{numberSize, configSize, filtersSize, periodicsSize, writtenSize, flightSize, queueSize, sendingSize, receivingSize, flagsAt, filtersAt, periodicsAt, receivingAt, lastAt, regionSize, memorySize}
 use Rattle.layout.specs.Record.{outCell, inCell}
-use Rattle.layout.specs.Memory.{configFits, config, filters, periodics, sendingPart, receivingPart, rest, openPart, region, memory, valid}
-use Rattle.layout.proofs.Places.{Behind}
-use Rattle.layout.proofs.Sizes.{filters-size, periodics-size, written-size, queue-size, sending-size, config-size, memory-size}
+use Rattle.layout.specs.Memory.{configFits, config, filters, periodics, sendingPart, receivingPart, lastPart, rest, openPart, region, memory, valid}
+use Rattle.layout.proofs.Places.{Ends, Behind}
+use Rattle.layout.proofs.Sizes.{filters-size, periodics-size, written-size, queue-size, sending-size, receiving-size, config-size, memory-size}
 use Rattle.stored_records.specs.Held.{cell}
 use Rattle.ten_places.specs.Place.{placesValid}
-use Rattle.stored_records.proofs.Parts.{Bytes, less, rest-part, behind-word, both-is, mark-is, at-rest}
+use Rattle.stored_records.proofs.Parts.{Bytes, less, rest-part, behind-word, both-is, mark-is, byte-valid, at-rest}
+
+-- a byte is its first
+byte-got : (m : List ℕ) → byte .get m ≡ getD m 0 0
+unfolding byte
+byte-got m = refl
 
 -- ---- the configuration
 
@@ -63,21 +68,30 @@ module _ (flags : ℕ) where
       sym (both-is (upTo mostToRead (inCell flags)) mark queueSize m (queue-size flags)
       ∙ ap (λ (b : Bool). upTo mostToRead (inCell flags) .valid (take queueSize m) && b) (mark-is (drop queueSize m) (less queueSize m t) ∙ ap (λ (k : ℕ). leb k 1) (at-rest queueSize m)))
 
+  -- the last code
+  last-flat : (m : List ℕ) → Bytes m → lastPart .valid (drop lastAt m) ≡ member (getD m lastAt 0) callCodes
+  unfolding lastPart such
+  last-flat m t = ap₂ (λ (b : Bool) (k : ℕ). b && member k callCodes) (byte-valid (drop lastAt m) (less lastAt m t)) (byte-got (drop lastAt m) ∙ at-rest lastAt m)
+
   -- what lies behind the configuration, each part where it begins in the region
   abbrev pub restTests : List ℕ → Bool
   restTests m =
       placesValid false flags (take filtersSize (drop filtersAt m))
-      && (sendingPart flags .valid (take sendingSize (drop periodicsAt m)) && receivingPart flags .valid (take receivingSize (drop receivingAt m)))
+      && (sendingPart flags .valid (take sendingSize (drop periodicsAt m))
+      && (receivingPart flags .valid (take receivingSize (drop receivingAt m)) && member (getD m lastAt 0) callCodes))
 
-  rest-flat : (m : List ℕ) → length m ≡ regionSize → rest flags .valid (drop filtersAt m) ≡ restTests m
+  rest-flat : (m : List ℕ) → Bytes m → rest flags .valid (drop filtersAt m) ≡ restTests m
   unfolding rest placesValid
-  rest-flat m h =
+  rest-flat m t =
       both-is (filters flags) (Behind flags) filtersSize (drop filtersAt m) (filters-size flags)
       ∙ ap (λ (b : Bool). filters flags .valid (take filtersSize (drop filtersAt m)) && b)
       (ap (λ (x : List ℕ). Behind flags .valid x) (drop-drop filtersSize filtersAt m)
-      ∙ both-is (sendingPart flags) (receivingPart flags) sendingSize (drop periodicsAt m) (sending-size flags)
-      ∙ ap (λ (x : List ℕ). sendingPart flags .valid (take sendingSize (drop periodicsAt m)) && receivingPart flags .valid x)
-      (drop-drop sendingSize periodicsAt m ∙ sym (rest-part receivingAt receivingSize m h)))
+      ∙ both-is (sendingPart flags) (Ends flags) sendingSize (drop periodicsAt m) (sending-size flags)
+      ∙ ap (λ (b : Bool). sendingPart flags .valid (take sendingSize (drop periodicsAt m)) && b)
+      (ap (λ (x : List ℕ). Ends flags .valid x) (drop-drop sendingSize periodicsAt m)
+      ∙ both-is (receivingPart flags) lastPart receivingSize (drop receivingAt m) (receiving-size flags)
+      ∙ ap (λ (b : Bool). receivingPart flags .valid (take receivingSize (drop receivingAt m)) && b)
+      (ap (λ (x : List ℕ). lastPart .valid x) (drop-drop receivingSize receivingAt m) ∙ last-flat m t)))
 
 -- the flags stand at the front
 word-take : (m : List ℕ) → wordAt 0 (take configSize m) ≡ wordAt 0 m
@@ -88,14 +102,14 @@ config-key : (m : List ℕ) → config .get (take configSize (drop flagsAt m)) .
 unfolding config such via
 config-key m = first-word (take configSize (drop flagsAt m)) ∙ word-take (drop flagsAt m) ∙ word-drop 0 flagsAt m
 
-pub open-flat : (m : List ℕ) → length m ≡ regionSize
+pub open-flat : (m : List ℕ) → Bytes m
     → (config .valid (take configSize (drop flagsAt m)) && restTests (wordAt flagsAt m) m) ≡ openPart .valid (drop flagsAt m)
 unfolding openPart via bothOn
-open-flat m h =
+open-flat m t =
     let c : Bool = config .valid (take configSize (drop flagsAt m)) in
     sym (ap (λ (k : ℕ). config .valid (take k (drop flagsAt m)) && rest (config .get (take k (drop flagsAt m)) .flags) .valid (drop k (drop flagsAt m))) config-size
     ∙ ap₂ (λ (k : ℕ) (x : List ℕ). c && rest k .valid x) (config-key m) (drop-drop configSize flagsAt m)
-    ∙ ap (λ (b : Bool). c && b) (rest-flat (wordAt flagsAt m) m h))
+    ∙ ap (λ (b : Bool). c && b) (rest-flat (wordAt flagsAt m) m t))
 
 -- ---- a region
 

@@ -1,7 +1,9 @@
 // Is this a device memory? Each function decides what one part of the layout calls valid, and the cost grows with what is held.
 use can::is_flags;
 use can::is_known_rate;
+use integers::wide;
 use integers::word_at;
+use noting::is_kept;
 use octets::all_zero;
 use stored_records::store;
 ghost use mathlib.Core.Path.{_≡_};
@@ -51,7 +53,7 @@ fn receiving(s: &[u8], flags: u32) -> bool
         & (s[places::QUEUE_SIZE] <= 1)
 }
 
-// The region of an open channel, behind its open mark: every width there is one that its flags take.
+// The region of an open channel, behind its open mark: every width there is one that its flags take, and the last code one that is kept.
 fn opened(s: &[u8]) -> bool
     requires { ⌜ length (now s) ≡ regionSize ⌝ }
     ensures { λ r. ⌜ r ≡ openPart .valid (drop flagsAt (now (s .entry))) ⌝ }
@@ -60,7 +62,8 @@ fn opened(s: &[u8]) -> bool
     configuration(&s[places::FLAGS..places::FILTERS])
         & (ten_places::valid(&s[places::FILTERS..places::PERIODICS], flags, false)
             & (sending(&s[places::PERIODICS..places::RECEIVING], flags)
-                & receiving(&s[places::RECEIVING..places::RECEIVING_END], flags)))
+                & (receiving(&s[places::RECEIVING..places::RECEIVING_END], flags)
+                    & is_kept(wide(s[places::LAST])))))
 }
 
 // A channel's region: closed and zeros, or open.

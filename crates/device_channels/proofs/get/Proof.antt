@@ -16,6 +16,8 @@ get-spec =
     tie.close
     (tie.spec
     (λ c κs. search needs)
+    (λ c. search needs)
     (λ c. not-valid threeRates _ _ (sym (c .before .valid .ensures) ∙ not-true _ (c .if1 .taken)))
-    (λ c κs. true-T _ (sym (c .before .valid .ensures) ∙ not-false _ (c .if1 .left)))
-    (λ c. c .get .ensures threeRates))
+    (λ c κs. true-T _ (sym (c .before .before .valid .ensures) ∙ not-false _ (c .before .if1 .left)))
+    (λ c. search needs)
+    (λ c. c .before .before .get .ensures threeRates))

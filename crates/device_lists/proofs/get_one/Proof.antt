@@ -5,4 +5,4 @@ use Rattle.device_lists.proofs.get_one.Statement.{statement}
 use Rattle.device_lists.proofs.get_one.Tie as tie
 
 pub get-one-spec : {M : Type 1} → statement M
-get-one-spec = tie.close (tie.spec (λ c κs. search needs) (λ c. search needs) (λ c. c .get .ensures threeRates))
+get-one-spec = tie.close (tie.spec (λ c κs. search needs) (λ c. search needs) (λ c. c .before .before .get .ensures threeRates))

@@ -2,7 +2,7 @@
 use mathlib.Core.Path.{refl}
 use mathlib.Core.List.{[], _∷_}
 use lib.ListN.{replicate}
-use Rattle.machine.specs.Channel.{says, flat, getParameter, setParameter, getList, setList}
+use Rattle.machine.specs.Channel.{says, flat, getParameter, lastError, getList, setList}
 use Rattle.machine.specs.Device.{connect, call}
 use Rattle.machine.proofs.Traces.Words.{_⇒_, answered, Happens, asTold, done, gives, code}
 
@@ -44,3 +44,19 @@ pub tooMany : Happens
     ∷ [])
 unfolding answered
 tooMany = asTold refl
+
+-- a list is one call with one code: the last code is the list's, and a list that is done leaves it
+pub oneCode : Happens
+    (connect 0 5 0 500000 ⇒ gives 1
+    ∷ call 1 (setList ((3, 1) ∷ (1, 250000) ∷ [])) ⇒ done
+    ∷ call 1 lastError ⇒ gives 0
+    ∷ call 1 (setList ((3, 0) ∷ (3, 2) ∷ (9, 0) ∷ [])) ⇒ code 0x05
+    ∷ call 1 lastError ⇒ gives 0x05
+    ∷ call 1 (getList ((3, 6) ∷ (9, 6) ∷ [])) ⇒ says 0x01 0 (flat ((3, 0) ∷ (9, 6) ∷ []))
+    ∷ call 1 lastError ⇒ gives 0x01
+    ∷ call 1 (setList (replicate 17 (3, 1))) ⇒ code 0x04
+    ∷ call 1 (getList ((3, 6) ∷ [])) ⇒ says 0x00 0 (flat ((3, 0) ∷ []))
+    ∷ call 1 lastError ⇒ gives 0x04
+    ∷ [])
+unfolding answered
+oneCode = asTold refl
