@@ -93,9 +93,9 @@ pub fn get(mem: &mut [u8], channel: u32, parameter: u32) -> Answer
             value: 0,
         };
     }
-    let answer = settings::get_in(&mem[a..a + REGION], parameter);
-    noting::note(mem, a, answer.code);
-    answer
+    let told = settings::get_in(&mem[a..a + REGION], parameter);
+    noting::note(mem, a, told.code);
+    told
 }
 
 // A parameter's new value; a rate is one of the rates.

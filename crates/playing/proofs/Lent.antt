@@ -12,7 +12,7 @@ use Rattle.codec.proofs.Tests.{left, right, true-T}
 use Rattle.codec.specs.Plain.{if_then_else_, within}
 use Rattle.machine.specs.Codes.{codeOf}
 use Rattle.machine.specs.Message.{Rec, shown, shownAll}
-use Rattle.machine.specs.Channel.{Chan, closed, opened, Open, Call, read, takeNext, lent, Answer, says, Outcome, withSending, withReceiving, unless, shorter, readCode, reading, onRead, Next, next, giving, chosen, taking, onTake, onOpen, onCall}
+use Rattle.machine.specs.Channel.{Chan, closed, opened, Open, Call, read, takeNext, lent, Answer, says, Outcome, withSending, withReceiving, unless, shorter, readCode, reading, onRead, Next, next, giving, chosen, taking, onTake, onOpen, onCall, notes, noted}
 use Rattle.machine.specs.Device.{Device, call, chanAt, step}
 use Rattle.machine.specs.Demands.{FourChannels}
 use Rattle.machine.proofs.Dispatch.{withChan, step-call, step-no-channel}
@@ -121,7 +121,7 @@ module _ (rates : List ℕ) (size : ℕ) (rule : ℕ → ℕ → ℕ → Type 0)
 
   module _ (d : Device) (four : FourChannels d) (k : ℕ) where
     in-range : (z : Bool) → within 1 4 k ≡ z → Gives size rule (λ (b : List ℕ). step rates d (call k (x b)))
-    unfolding within
+    unfolding within noted says
     in-range false q =
         nothing size rule (λ b. step rates d (call k (x b))) d 0x02 none
         (λ b h. step-no-channel rates d k (x b) (omega arith) q ∙ ap (λ (l : List ℕ). (d, says 0x02 0 l)) (lends b))
@@ -133,7 +133,7 @@ module _ (rates : List ℕ) (size : ℕ) (rule : ℕ → ℕ → ℕ → Type 0)
         let here : k ≡ i + 1 = omega arith in
         let g = on-channel (d .clock) (chanAt i d) in
         record {
-          after = withChan i (g .after) d;
+          after = withChan i (notes (g .code) (g .after)) d;
           code = g .code;
           value = g .value;
           bytes = g .bytes;
@@ -143,7 +143,7 @@ module _ (rates : List ℕ) (size : ℕ) (rule : ℕ → ℕ → ℕ → Type 0)
           is =
               λ b h.
               ap (λ (j : ℕ). step rates d (call j (x b))) here ∙ step-call rates d i (x b) (omega arith)
-              ∙ ap (λ (y : Outcome). (withChan i (y .0) d, y .1)) (g .is b h);
+              ∙ ap (λ (y : Outcome). (withChan i (noted y .0) d, noted y .1)) (g .is b h);
         }
 
 -- a read of n records, lent a buffer for as many; a take, lent one for one

@@ -14,10 +14,11 @@ use Rattle.codec.specs.Plain.{if_then_else_, within, member, all}
 use Rattle.machine.specs.Codes.{stepCodes, table}
 use Rattle.machine.specs.Message.{Rec, received, widthFlag, idBytes, takes}
 use Rattle.machine.specs.Filter.{passes}
-use Rattle.machine.specs.Channel.{Chan, closed, opened, Open, Call, disconnect, startFilter, stopFilter, startPeriodic, stopPeriodic, write, read, takeNext, sent, clear, getParameter, setParameter, getList, setList, lent, Answer, says, Outcome, withConfig, withFilters, withSending, withReceiving, unless, doneWith, onStartFilter, onStopFilter, arrive, frameCode, offered, onFrame, reading, onRead, onWrite, onStartPeriodic, onStopPeriodic, onAdvance, Next, giving, chosen, next, taking, onTake, landed, sending, onSent, onClear, onGet, setTo, onSet, onGetList, onSetList, onConnect, fresh, onOpen, onCall}
+use Rattle.machine.specs.Channel.{Chan, closed, opened, Open, Call, disconnect, startFilter, stopFilter, startPeriodic, stopPeriodic, write, read, takeNext, sent, clear, getParameter, setParameter, lastError, getList, setList, lent, Answer, says, Outcome, withConfig, withFilters, withSending, withReceiving, unless, doneWith, onStartFilter, onStopFilter, arrive, frameCode, offered, onFrame, reading, onRead, onWrite, onStartPeriodic, onStopPeriodic, onAdvance, Next, giving, chosen, next, taking, onTake, landed, sending, onSent, onClear, onGet, setTo, onSet, onGetList, onSetList, onConnect, fresh, onOpen, onCall, notes, noted, notedInUse}
 use Rattle.machine.specs.Device.{Device, Event, connect, call, frame, advance, close, chanAt, ownAnswer, step}
 use Rattle.machine.specs.Demands.{FourChannels, queueOf}
 use Rattle.machine.proofs.Dispatch.{withChan, step-connect, step-call, step-frame, step-advance, step-close, step-no-line, step-no-channel}
+use Rattle.machine.proofs.Counts.{queue-noted}
 use Rattle.machine.proofs.Refusals.{unless-case, if-case, codes-in-table}
 use Rattle.number.specs.Number.{bytesOf}
 use Rattle.number.proofs.Laws.{groups-one, written-short}
@@ -180,6 +181,7 @@ open-within rates now o (clear k) =
     let p = nothing-more (clear k) (λ a. refl) in search (one-or, kept (clear k) p o, le-refl, zero-le) depth 12
 open-within rates now o (getParameter q) = kept (getParameter q) (done-number (getParameter q) (λ a. refl)) o _ _ (omega arith)
 open-within rates now o (setParameter q v) = kept (setParameter q v) (nothing-more (setParameter q v) (λ a. refl)) o _ _ (omega arith)
+open-within rates now o lastError = kept lastError (nothing-more lastError (λ a. refl)) o (opened o) _ (omega arith)
 open-within rates now o (getList ps) = refused-or (getList ps) (nothing-more (getList ps) (λ a. refl)) o _ _ _ (omega arith)
 open-within rates now o (setList ps) = refused-or (setList ps) (nothing-more (setList ps) (λ a. refl)) o _ _ _ (omega arith)
 
@@ -198,6 +200,7 @@ refused-short sent k b = omega arith
 refused-short (clear c) k b = omega arith
 refused-short (getParameter p) k b = omega (arith, done-length k (bytesOf 0), number-length 0)
 refused-short (setParameter p v) k b = omega arith
+refused-short lastError k b = omega arith
 refused-short (getList ps) k b = omega arith
 refused-short (setList ps) k b = omega arith
 
@@ -205,6 +208,20 @@ call-within : (rates : List ℕ) (now : ℕ) (c : Chan) (x : Call) → Within x 
 unfolding onCall
 call-within rates now closed x = record { fits = omega (arith, refused-short x 2 (lent x)) }
 call-within rates now (opened o) x = open-within rates now o x
+
+-- ---- a code that is noted holds nothing
+
+weight-noted : (k : ℕ) (c : Chan) → weight c ≡ weight (notes k c)
+weight-noted k c = ap (λ (q : List Rec). 36 * length q) (queue-noted k c)
+
+-- so what holds of an answer and of what the channel holds, holds of both where the code is noted
+noted-held : (P : Answer → ℕ → Type 0) (x : Outcome) → P (x .1) (weight (x .0)) → P (noted x .1) (weight (noted x .0))
+unfolding noted
+noted-held P x p = subst (P (x .1)) (weight-noted (x .1 .code) (x .0)) p
+
+in-use-held : (P : Answer → ℕ → Type 0) (x : Outcome) → P (x .1) (weight (x .0)) → P (notedInUse x .1) (weight (notedInUse x .0))
+unfolding notedInUse
+in-use-held P x p = if-case (λ (y : Outcome). P (y .1) (weight (y .0))) (eqb (x .1 .code) 0x14) (noted x) x (noted-held P x p) p
 
 -- ---- the box
 
@@ -284,7 +301,8 @@ module _ (rates : List ℕ) (d : Device) (four : FourChannels d) where
   unfolding afterCode ownAnswer says
   connect-grows l p f r true q =
       subst (Grows (connect l p f r) d 37) (sym (step-connect rates d l p f r (ltb-true l 4 q)))
-      (one-grows (connect l p f r) d 37 l _ _ (connected rates (chanAt l d) l p f r))
+      (one-grows (connect l p f r) d 37 l _ _
+      (in-use-held (λ (a : Answer) (w : ℕ). length (afterCode (connect l p f r) a) + w ≤ weight (chanAt l d) + 37) (onConnect rates (chanAt l d) l p f r) (connected rates (chanAt l d) l p f r)))
   connect-grows l p f r false q =
       subst (Grows (connect l p f r) d 37) (sym (step-no-line rates d l p f r (omega arith) (ltb-false l 4 q)))
       (none-grows (connect l p f r) d 37 (ownAnswer rates (connect l p f r)) (omega (arith, number-length 0, done-length (ownAnswer rates (connect l p f r) .code) (bytesOf 0))))
@@ -299,7 +317,8 @@ module _ (rates : List ℕ) (d : Device) (four : FourChannels d) where
       let here : i + 1 ≡ k = omega arith in
       subst (λ (j : ℕ). Grows (call j x) d 37 (step rates d (call j x))) here
       (subst (Grows (call (i + 1) x) d 37) (sym (step-call rates d i x (omega arith)))
-      (one-grows (call (i + 1) x) d 37 i _ _ (call-within rates (d .clock) (chanAt i d) x .fits)))
+      (one-grows (call (i + 1) x) d 37 i _ _
+      (noted-held (λ (a : Answer) (w : ℕ). length (afterCall x a) + w ≤ weight (chanAt i d) + 37) (onCall rates (d .clock) (chanAt i d) x) (call-within rates (d .clock) (chanAt i d) x .fits))))
   call-grows k x false q =
       subst (Grows (call k x) d 37) (sym (step-no-channel rates d k x (omega arith) q))
       (none-grows (call k x) d 37 (says 2 0 (lent x)) (omega (arith, refused-short x 2 (lent x))))

@@ -48,7 +48,7 @@ returns-3 : tie.Need-returns-3
 returns-3 c = rw (c .before .before .before .before .before .before .e3 .given .1) (c .before .before .start-periodic .ensures _)
 
 returns-4 : tie.Need-returns-4
-returns-4 c = rw (c .before .before .before .e4 .given .1) (c .get .ensures _)
+returns-4 c = rw (c .before .before .before .before .before .e4 .given .1) (c .before .before .get .ensures _)
 
 pub giving-answer-spec : {M : Type 1} → statement M
 giving-answer-spec =
