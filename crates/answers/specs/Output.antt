@@ -6,7 +6,7 @@ use lib.ListN.{take}
 use Rattle.codec.specs.Plain.{if_then_else_}
 use Rattle.machine.specs.Limits.{recordSize}
 use Rattle.number.specs.Number.{bytesOf}
-use Rattle.machine.specs.Channel.{Call, disconnect, startFilter, stopFilter, startPeriodic, stopPeriodic, write, read, takeNext, sent, clear, getParameter, setParameter, lastError, Answer}
+use Rattle.machine.specs.Channel.{Call, disconnect, startFilter, stopFilter, startPeriodic, stopPeriodic, write, read, takeNext, sent, clear, getParameter, setParameter, lastError, getList, setList, Answer}
 use Rattle.machine.specs.Device.{Event, connect, call, frame, advance, close}
 
 -- these bytes on 0x00, else none
@@ -14,7 +14,7 @@ unfoldable pub onDone : ℕ → List ℕ → List ℕ
 onDone code more = if eqb code 0x00 then more else []
 
 -- behind the code of a call: read and write always give the count, and read its records; on 0x00 a start gives the number, take the record,
--- get the value. No event asks for the last code
+-- get the value. No event asks for the last code, and none is a list of parameters
 unfoldable pub afterCall : Call → Answer → List ℕ
 afterCall disconnect a = []
 afterCall (startFilter t m p) a = onDone (a .code) (bytesOf (a .value))
@@ -29,6 +29,8 @@ afterCall (clear k) a = []
 afterCall (getParameter p) a = onDone (a .code) (bytesOf (a .value))
 afterCall (setParameter p v) a = []
 afterCall lastError a = []
+afterCall (getList ps) a = []
+afterCall (setList ps) a = []
 
 -- behind the code of an event: on 0x00 connect gives the channel
 unfoldable pub afterCode : Event → Answer → List ℕ

@@ -10,23 +10,24 @@ use mathlib.Core.Bool.{true}
 use mathlib.Core.List.{List, _∷_, _++_}
 use lib.ListN.{length}
 use lib.Dec.{T}
-use Rattle.codec.specs.Plain.{zeros}
+use Rattle.codec.specs.Plain.{member, zeros}
 use Rattle.machine.specs.Codes.{threeRates, twoRates}
 use Rattle.machine.specs.Limits.{lines}
-use Rattle.machine.specs.Channel.{Call}
+use Rattle.machine.specs.Channel.{Call, Pairs, getList, setList}
 use Rattle.machine.specs.Device.{Event, call, powerOn}
-use Rattle.machine.specs.Demands.{refusal, Apart, Names, byCall, SameToEach}
+use Rattle.machine.specs.Demands.{pairCodes, refusal, Apart, Names, byCall, SameToEach}
 use Rattle.machine.proofs.Isolation.{different-apart}
 use Rattle.layout.specs.Sizes.{memorySize}
 use Rattle.layout.specs.Memory.{image, load, valid}
 use Rattle.layout.specs.Promise.{Result, answerOf, outcome, powerOnOutcome}
-use Rattle.layout.specs.Runs.{leaves, switchedOn, NothingElseChanged, AsMachine, Untouched, Commute, Reordered}
+use Rattle.layout.specs.Runs.{leaves, switchedOn, NothingElseChanged, SetListEnded, GetListEnded, AsMachine, Untouched, Commute, Reordered}
 use Rattle.layout.specs.Reach.{AllBytes}
 use Rattle.layout.proofs.Memory.{valid-image}
 use Rattle.layout.proofs.Sizes.{power-on-zeros}
 use Rattle.layout.proofs.Calls.{Known, three-known, two-known}
 use Rattle.layout.proofs.Reach.{power-on-ok}
 use Rattle.layout.proofs.Unique.{refusal-leaves, valid-answered, started, not-started-leaves}
+use Rattle.layout.proofs.Lists.{set-list-ended as set-ended, get-list-ended as get-ended}
 use Rattle.layout.proofs.Isolation.{image-runs, runs, stays-valid, struck, exchanged, rearranged}
 
 -- power-on, called on any bytes of the right size, leaves the memory of a box with nothing open and clock 0, which is zeros
@@ -48,6 +49,14 @@ module _ (rates : List ℕ) (known : Known rates) where
   pub refused-from-power-on : (bytes : List ℕ) (es : List Event) (e : Event)
       → refusal e (answerOf (outcome rates (leaves rates (switchedOn bytes) es) e)) ≡ true → NothingElseChanged rates (leaves rates (switchedOn bytes) es) e
   refused-from-power-on bytes es e = refused-changes-nothing-else (leaves rates (switchedOn bytes) es) e
+
+  -- a list of parameters that a pair ended (02, P2, amends the demand for lists only), on whatever bytes are lent as the memory: a set leaves what its
+  -- accepted pairs leave, a get leaves the refused pair and all behind it
+  pub set-list-ended : (m : List ℕ) (k : ℕ) (ps : Pairs) → member (outcome rates m (call k (setList ps)) .code) pairCodes ≡ true → SetListEnded rates m k ps
+  set-list-ended = set-ended rates known
+
+  pub get-list-ended : (m : List ℕ) (k : ℕ) (ps : Pairs) → member (outcome rates m (call k (getList ps)) .code) pairCodes ≡ true → GetListEnded rates m k ps
+  get-list-ended = get-ended rates known
 
   -- ---- DEMAND 2: every call gives the answer and leaves the memory of the plain machine
 

@@ -1,15 +1,18 @@
 -- DEMANDS 1 AND 3 FROM POWER-ON, in the demands' own words: whatever has happened to the box since, and for any set of rates. No premise on the
 -- device is left. Channels go by their line: channel number c is that of line c - 1. Assumes nothing.
-use Prim.Native.Nat.{ℕ, _<_}
+use Prim.Native.Nat.{ℕ, _≤_, _<_}
 use mathlib.Core.Path.{_≡_, refl}
 use mathlib.Core.Logic.{_≢_}
 use mathlib.Core.Bool.{true, false}
-use mathlib.Core.List.{List}
-use Rattle.machine.specs.Limits.{lines}
-use Rattle.machine.specs.Channel.{Call}
+use mathlib.Core.List.{List, _∷_}
+use lib.ListN.{length}
+use Rattle.codec.specs.Plain.{member}
+use Rattle.machine.specs.Limits.{lines, mostPairs}
+use Rattle.machine.specs.Channel.{Call, Pairs, flat, getParameter, setParameter, getList, setList, says}
 use Rattle.machine.specs.Device.{Event, call, lentBy, powerOn, chanAt, step, run, answers}
-use Rattle.machine.specs.Demands.{FourChannels, refusal, remembers, concerns, strike, answersOf, Projected, Exchanged, SameToEach, Arranged, Ignored, Names, byCall}
+use Rattle.machine.specs.Demands.{FourChannels, pairCodes, refusal, remembers, SetEnded, GetEnded, concerns, strike, answersOf, Projected, Exchanged, SameToEach, Arranged, Ignored, Names, byCall}
 use Rattle.machine.proofs.Dispatch.{run-channels-kept}
+use Rattle.machine.proofs.Pairs.{set-ended, get-ended, set-at-once, get-at-once}
 use Rattle.machine.proofs.Refusals.{refused-leaves}
 use Rattle.machine.proofs.Isolation.{projection-from, ignored, arranged, different-exchange}
 
@@ -27,6 +30,24 @@ module _ (rates : List ℕ) where
       → (step rates (run rates powerOn es) e .0 ≡ remembers e (step rates (run rates powerOn es) e .1 .code) (run rates powerOn es))
       × (step rates (run rates powerOn es) e .1 .buffer ≡ lentBy e)
   refused-changes-nothing-else es e = refused-leaves rates (run rates powerOn es) e (four es)
+
+  -- A LIST OF PARAMETERS THAT A PAIR ENDED (02, P2, amends the demand for lists only), after any events: a set leaves what its accepted pairs leave, a
+  -- get leaves the refused pair and all behind it
+  pub set-list-ended : (es : List Event) (k : ℕ) (ps : Pairs) → member (step rates (run rates powerOn es) (call k (setList ps)) .1 .code) pairCodes ≡ true → SetEnded rates (run rates powerOn es) k ps
+  set-list-ended es k ps = set-ended rates (run rates powerOn es) (four es) k ps
+
+  pub get-list-ended : (es : List Event) (k : ℕ) (ps : Pairs) → member (step rates (run rates powerOn es) (call k (getList ps)) .1 .code) pairCodes ≡ true → GetEnded rates (run rates powerOn es) k ps
+  get-list-ended es k ps = get-ended rates (run rates powerOn es) (four es) k ps
+
+  -- a list whose first pair is refused alone gives and leaves what that single call does, which is such a refusal
+  pub set-list-at-once : (es : List Event) (k : ℕ) (p : ℕ × ℕ) (ps : Pairs) → length (p ∷ ps) ≤ mostPairs → step rates (run rates powerOn es) (call k (setParameter (p .0) (p .1))) .1 .code ≢ 0x00
+      → step rates (run rates powerOn es) (call k (setList (p ∷ ps))) ≡ step rates (run rates powerOn es) (call k (setParameter (p .0) (p .1)))
+  set-list-at-once es k p ps = set-at-once rates (run rates powerOn es) (four es) k p ps
+
+  pub get-list-at-once : (es : List Event) (k : ℕ) (p : ℕ × ℕ) (ps : Pairs) → length (p ∷ ps) ≤ mostPairs → step rates (run rates powerOn es) (call k (getParameter (p .0))) .1 .code ≢ 0x00
+      → step rates (run rates powerOn es) (call k (getList (p ∷ ps)))
+      ≡ (step rates (run rates powerOn es) (call k (getParameter (p .0))) .0, says (step rates (run rates powerOn es) (call k (getParameter (p .0))) .1 .code) 0 (flat (p ∷ ps)))
+  get-list-at-once es k p ps = get-at-once rates (run rates powerOn es) (four es) k p ps
 
   -- ---- demand 3
 

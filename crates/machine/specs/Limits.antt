@@ -23,6 +23,10 @@ mostWritten = 16
 abbrev pub mostToRead : ℕ
 mostToRead = 32
 
+-- at most 16 parameters in a list
+abbrev pub mostPairs : ℕ
+mostPairs = 16
+
 -- a record's bytes, and its data bytes: an identifier of four and at most eight of a frame
 abbrev pub recordSize : ℕ
 recordSize = 36

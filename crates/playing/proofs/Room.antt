@@ -14,7 +14,7 @@ use Rattle.codec.specs.Plain.{if_then_else_, within, member, all}
 use Rattle.machine.specs.Codes.{stepCodes, table}
 use Rattle.machine.specs.Message.{Rec, received, widthFlag, idBytes, takes}
 use Rattle.machine.specs.Filter.{passes}
-use Rattle.machine.specs.Channel.{Chan, closed, opened, Open, Call, disconnect, startFilter, stopFilter, startPeriodic, stopPeriodic, write, read, takeNext, sent, clear, getParameter, setParameter, lastError, lent, Answer, says, Outcome, withConfig, withFilters, withSending, withReceiving, unless, doneWith, onStartFilter, onStopFilter, arrive, frameCode, offered, onFrame, reading, onRead, onWrite, onStartPeriodic, onStopPeriodic, onAdvance, Next, giving, chosen, next, taking, onTake, landed, sending, onSent, onClear, onGet, onSet, onConnect, fresh, onOpen, onCall, notes, noted, notedInUse}
+use Rattle.machine.specs.Channel.{Chan, closed, opened, Open, Call, disconnect, startFilter, stopFilter, startPeriodic, stopPeriodic, write, read, takeNext, sent, clear, getParameter, setParameter, lastError, getList, setList, lent, Answer, says, Outcome, withConfig, withFilters, withSending, withReceiving, unless, doneWith, onStartFilter, onStopFilter, arrive, frameCode, offered, onFrame, reading, onRead, onWrite, onStartPeriodic, onStopPeriodic, onAdvance, Next, giving, chosen, next, taking, onTake, landed, sending, onSent, onClear, onGet, setTo, onSet, onGetList, onSetList, onConnect, fresh, onOpen, onCall, notes, noted, notedInUse}
 use Rattle.machine.specs.Device.{Device, Event, connect, call, frame, advance, close, chanAt, ownAnswer, step}
 use Rattle.machine.specs.Demands.{FourChannels, queueOf}
 use Rattle.machine.proofs.Dispatch.{withChan, step-connect, step-call, step-frame, step-advance, step-close, step-no-line, step-no-channel}
@@ -167,7 +167,7 @@ one-or x before g y z p q = if-case (Within x before) g y z p q
 
 -- every call on an open channel
 open-within : (rates : List ℕ) (now : ℕ) (o : Open) (x : Call) → Within x (weight (opened o)) (onOpen rates now o x)
-unfolding onOpen doneWith afterCall queueOf withConfig withFilters withSending withReceiving onStartFilter onStopFilter onStartPeriodic onStopPeriodic onWrite onSent onClear onGet onSet
+unfolding onOpen doneWith afterCall queueOf withConfig withFilters withSending withReceiving onStartFilter onStopFilter onStartPeriodic onStopPeriodic onWrite onSent onClear onGet setTo onSet onGetList onSetList
 open-within rates now o disconnect = record { fits = omega arith }
 open-within rates now o (startFilter t m p) = refused-or (startFilter t m p) (done-number (startFilter t m p) (λ a. refl)) o _ _ _ (omega arith)
 open-within rates now o (stopFilter n) = refused-or (stopFilter n) (nothing-more (stopFilter n) (λ a. refl)) o _ _ _ (omega arith)
@@ -179,11 +179,11 @@ open-within rates now o (takeNext b) = take-within o b
 open-within rates now o sent = sent-within now o (o .sending .flight)
 open-within rates now o (clear k) =
     let p = nothing-more (clear k) (λ a. refl) in search (one-or, kept (clear k) p o, le-refl, zero-le) depth 12
-open-within rates now o (getParameter q) =
-    let p = done-number (getParameter q) (λ a. refl) in search (one-or, kept (getParameter q) p o, le-refl) depth 12
-open-within rates now o (setParameter q v) =
-    let p = nothing-more (setParameter q v) (λ a. refl) in search (one-or, kept (setParameter q v) p o, refused-or (setParameter q v) p o, le-refl) depth 12
+open-within rates now o (getParameter q) = kept (getParameter q) (done-number (getParameter q) (λ a. refl)) o _ _ (omega arith)
+open-within rates now o (setParameter q v) = kept (setParameter q v) (nothing-more (setParameter q v) (λ a. refl)) o _ _ (omega arith)
 open-within rates now o lastError = kept lastError (nothing-more lastError (λ a. refl)) o (opened o) _ (omega arith)
+open-within rates now o (getList ps) = refused-or (getList ps) (nothing-more (getList ps) (λ a. refl)) o _ _ _ (omega arith)
+open-within rates now o (setList ps) = refused-or (setList ps) (nothing-more (setList ps) (λ a. refl)) o _ _ _ (omega arith)
 
 -- a refusal counts and gives nothing
 refused-short : (x : Call) (k : ℕ) (b : List ℕ) → length (afterCall x (says k 0 b)) ≤ 36
@@ -201,6 +201,8 @@ refused-short (clear c) k b = omega arith
 refused-short (getParameter p) k b = omega (arith, done-length k (bytesOf 0), number-length 0)
 refused-short (setParameter p v) k b = omega arith
 refused-short lastError k b = omega arith
+refused-short (getList ps) k b = omega arith
+refused-short (setList ps) k b = omega arith
 
 call-within : (rates : List ℕ) (now : ℕ) (c : Chan) (x : Call) → Within x (weight c) (onCall rates now c x)
 unfolding onCall

@@ -12,9 +12,8 @@ use Rattle.codec.specs.Plain.{if_then_else_, member, zeros}
 use Rattle.codec.specs.Word.{word}
 use Rattle.codec.specs.Code.{Code, byte, word32, both, via, such, markOf, mark, many, vacant, upTo, beside, eachVia}
 use Rattle.codec.proofs.Tests.{above, between}
-use Rattle.machine.specs.Codes.{codeOf}
 use Rattle.machine.specs.Filter.{noneYet}
-use Rattle.machine.specs.Channel.{Chan, unless, doneWith, onOpen, onClear, onGet, onSet, clear, getParameter, setParameter}
+use Rattle.machine.specs.Channel.{Chan, withConfig, doneWith, onOpen, onClear, getIn, setIn, onGet, setTo, onSet, clear, getParameter, setParameter}
 use Rattle.machine.specs.Limits.{mostWritten}
 use Rattle.layout.specs.Sizes.{receivingAt, writtenAt, periodicsAt, filtersSize, periodicsSize, writtenSize, receivingSize, rateAt, loopbackAt, filtersAt, numberSize}
 use Rattle.layout.specs.Record.{row, body, rec36, outCell, inCell}
@@ -38,40 +37,40 @@ module _ (r : List ℕ) (o : Opened r) (rates : List ℕ) (t : ℕ) where
   -- get
 
   pub get-rate : (p n : ℕ) → p ≡ 1 → n ≡ openOf r .config .rate → gives 0 n [] r ≡ callOutcome rates t r (getParameter p)
-  unfolding onOpen onGet doneWith
+  unfolding onOpen onGet getIn
   get-rate p n e g = ap (λ (x : ℕ). gives 0 x [] r) g ∙ stays r o rates t (getParameter p) 0 (openOf r .config .rate) [] (rw (eq-eqb p 1 e) refl)
 
   pub get-loopback : (p n : ℕ) → p ≡ 3 → n ≡ getD r loopbackAt 0 → gives 0 n [] r ≡ callOutcome rates t r (getParameter p)
-  unfolding onOpen onGet doneWith
+  unfolding onOpen onGet getIn
   get-loopback p n e g =
       ap (λ (x : ℕ). gives 0 x [] r) (g ∙ mark-of (loopback-part r o) ∙ mark-number (openOf r .config .loopback))
       ∙ stays r o rates t (getParameter p) 0 (if openOf r .config .loopback then 1 else 0) [] (rw e refl)
 
   pub get-unknown : (p : ℕ) → (p ≡ 1 → ⊥) → (p ≡ 3 → ⊥) → gives 1 0 [] r ≡ callOutcome rates t r (getParameter p)
-  unfolding onOpen onGet
+  unfolding onOpen onGet getIn
   get-unknown p a b = stays r o rates t (getParameter p) 1 0 [] (rw (ne-eqb p 1 a) (rw (ne-eqb p 3 b) refl))
 
   -- set
 
   pub set-rate-bad : (p n : ℕ) → p ≡ 1 → member n rates ≡ false → gives 5 0 [] r ≡ callOutcome rates t r (setParameter p n)
-  unfolding onOpen onSet unless codeOf doneWith
+  unfolding onOpen onSet setTo setIn withConfig
   set-rate-bad p n e b = stays r o rates t _ 5 0 [] (rw (eq-eqb p 1 e) (rw b refl))
 
   pub set-rate : (p n : ℕ) (ys : List ℕ) → p ≡ 1 → member n rates ≡ true → ys ≡ word n → gives 0 0 [] (putMid rateAt numberSize r ys) ≡ callOutcome rates t r (setParameter p n)
-  unfolding onOpen onSet unless codeOf doneWith word32
+  unfolding onOpen onSet setTo setIn word32
   set-rate p n ys e g y = moves r o rates t _ _ 0 0 [] _ (rw (eq-eqb p 1 e) (rw g refl)) (rate-part r o .becomes ys n y)
 
   pub set-mark-bad : (p n : ℕ) → p ≡ 3 → 1 < n → gives 5 0 [] r ≡ callOutcome rates t r (setParameter p n)
-  unfolding onOpen onSet unless codeOf doneWith
+  unfolding onOpen onSet setTo setIn withConfig
   set-mark-bad p n e b = stays r o rates t _ 5 0 [] (rw e (rw (above 0 1 n b) refl))
 
   pub set-mark : (p n : ℕ) → p ≡ 3 → n ≤ 1 → gives 0 0 [] (set r loopbackAt n) ≡ callOutcome rates t r (setParameter p n)
-  unfolding onOpen onSet unless codeOf doneWith
+  unfolding onOpen onSet setTo setIn withConfig
   set-mark p n e g =
       moves r o rates t _ _ 0 0 [] _ (rw e (rw (between 0 1 n (omega arith) g) (rw (one-either n g) refl))) (mark-stored (loopback-part r o) (omega (arith, o .long)) n g)
 
   pub set-unknown : (p n : ℕ) → (p ≡ 1 → ⊥) → (p ≡ 3 → ⊥) → gives 1 0 [] r ≡ callOutcome rates t r (setParameter p n)
-  unfolding onOpen onSet
+  unfolding onOpen onSet setTo setIn withConfig
   set-unknown p n a b = stays r o rates t _ 1 0 [] (rw (ne-eqb p 1 a) (rw (ne-eqb p 3 b) refl))
 
   -- clear: zeros over a part are the bytes of that part with nothing in it

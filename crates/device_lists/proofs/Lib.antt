@@ -1,0 +1,4 @@
+pub mod Refused
+pub mod Lists
+pub mod Leave
+pub mod Again
