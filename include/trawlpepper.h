@@ -5,16 +5,18 @@
  * back through a pointer. It is a part of the answer and no lent buffer: it is written by every call, refused ones too, and is 0 where the
  * code gives none, so that no caller reads a count of an earlier call.
  *
- * Slices pass as a pointer and then a length in bytes. What C cannot check, you guarantee:
- *   - each pointer points to at least as many bytes as the length says; where the length is 0 it may be NULL (no byte is read or written
- *   through it), and it needs no alignment;
+ * Slices pass as a pointer and then a length in bytes; lists of pairs pass as a pointer and then the number of pairs. What C cannot check, you
+ * guarantee:
+ *   - each pointer points to at least as many bytes, or pairs, as the length says; where the length is 0 it may be NULL (no byte is read or
+ *   written through it). A list of pairs is aligned as C aligns a struct trawl_pair, to 4 bytes; no other slice needs alignment;
  *   - the pointer that a number comes back through is not NULL;
  *   - what a call may write (the memory, a buffer that is not const, a number's pointer) overlaps nothing else that is lent to that call;
  *   - one thread at a time uses a memory. Two memories have nothing in common: calls on different ones may run at the same time.
  * Everything else is checked: any bytes, any lengths, any numbers are answered with a code. A refused call changes no byte of any lent buffer,
  * and of the memory nothing but the last code of the channel that it is a call on (see trawl_last_error). A refusal is every code but
  * STATUS_NOERROR and the two results ERR_TIMEOUT and ERR_BUFFER_OVERFLOW; of a write whose count is above 0 any code is a result, and the records
- * counted are queued. What is lent is used during the call and never after it; what is const is never written.
+ * counted are queued. A list may be refused at a later pair, and then what the pairs before that one did stays. What is lent is used during the
+ * call and never after it; what is const is never written.
  *
  *     static uint8_t box[TRAWL_MEMORY], every[TRAWL_RECORD], record[TRAWL_RECORD];
  *     static const uint8_t data[3] = {0x02, 0x10, 0x03};
@@ -42,15 +44,17 @@ extern "C" {
 /* The version of this header and of the archive built from the same sources. The first number changes when a program or a kept memory that was
  * good may be so no more, the second when something is added, the third with everything else. TRAWL_VERSION is for comparing. */
 #define TRAWL_VERSION_MAJOR 3
-#define TRAWL_VERSION_MINOR 0
+#define TRAWL_VERSION_MINOR 1
 #define TRAWL_VERSION_PATCH 0
 #define TRAWL_VERSION (TRAWL_VERSION_MAJOR * 10000 + TRAWL_VERSION_MINOR * 100 + TRAWL_VERSION_PATCH)
 
-/* The size of the device memory, of a message record and of a telegram record, and the room for the bytes of a telegram. */
+/* The size of the device memory, of a message record and of a telegram record, and the room for the bytes of a telegram; the most pairs of a
+ * list. */
 #define TRAWL_MEMORY 10000u
 #define TRAWL_RECORD 36u
 #define TRAWL_TELEGRAM 32u
 #define TRAWL_TELEGRAM_ROOM 8u
+#define TRAWL_PAIRS 16u
 
 /* Every name of J2534-1 stands here with the prefix TRAWL_. Without it the same names are defined at the end of this file, unless you define
  * TRAWL_NO_J2534_NAMES before you include it: so the header lives beside a j2534.h of yours, whichever comes first. The numbers are J2534-1's
@@ -61,7 +65,7 @@ extern "C" {
 #define TRAWL_ERR_NOT_SUPPORTED 0x01u         /* unknown configuration parameter */
 #define TRAWL_ERR_INVALID_CHANNEL_ID 0x02u    /* channel number not 1 to 4, or not open */
 #define TRAWL_ERR_INVALID_PROTOCOL_ID 0x03u   /* connect: protocol is not 5 */
-#define TRAWL_ERR_NULL_PARAMETER 0x04u        /* lent buffer too short */
+#define TRAWL_ERR_NULL_PARAMETER 0x04u        /* lent buffer too short; a list of more than 16 pairs */
 #define TRAWL_ERR_INVALID_IOCTL_VALUE 0x05u   /* bad value for a known parameter */
 #define TRAWL_ERR_INVALID_FLAGS 0x06u         /* connect: a flag other than 0x100, 0x800 */
 #define TRAWL_ERR_FAILED 0x07u                /* sent with nothing in flight */
@@ -335,10 +339,30 @@ uint32_t trawl_get(uint8_t *memory, size_t memory_length, uint32_t channel, uint
  * Codes: 0x1A; 0x02; 0x01 another parameter, whatever the value; 0x05 another value, 125000 too. */
 uint32_t trawl_set(uint8_t *memory, size_t memory_length, uint32_t channel, uint32_t parameter, uint32_t value);
 
+/* A parameter and its value, as in J2534-1's SCONFIG: Parameter, then Value. Here both have 32 bits; where SCONFIG's are wider, copy them pair by
+ * pair. The lists of trawl_set_list and trawl_get_list have 0 to TRAWL_PAIRS of them, one behind the other, as SCONFIG_LIST's ConfigPtr has. */
+struct trawl_pair {
+    uint32_t parameter;
+    uint32_t value;
+};
+
+/* SET_CONFIG: sets the parameters of a list, pair by pair in order, each as trawl_set does. The first pair refused gives its code and ends the
+ * list: what earlier pairs set stays in force, later pairs are not looked at. A parameter may stand there twice, and the later one wins. The list
+ * itself is only read. With no pairs the answer is 0x00.
+ * Codes: 0x1A; 0x02; 0x04 more than 16 pairs, and none is set; then for each pair 0x01 another parameter, whatever the value; 0x05 another
+ * value. */
+uint32_t trawl_set_list(uint8_t *memory, size_t memory_length, uint32_t channel, const struct trawl_pair *pairs, size_t count);
+
+/* GET_CONFIG: writes the value of each parameter of a list into its own pair, in order, each as trawl_get gives it. The first pair refused gives
+ * its code and ends the list: values written before it stay there, its own value and all later ones are left as they were. Parameters are never
+ * written. With no pairs the answer is 0x00.
+ * Codes: 0x1A; 0x02; 0x04 more than 16 pairs, and none is written; then for each pair 0x01 another parameter. */
+uint32_t trawl_get_list(uint8_t *memory, size_t memory_length, uint32_t channel, struct trawl_pair *pairs, size_t count);
+
 /* The last code of a channel: of the last call on it that was not answered 0x00, or 0 where all were since it was connected. It is what
  * PassThruGetLastError asks for, of one channel and as a number.
  *   - Every code but 0x00 counts, results too: a read's 0x09, 0x10 and 0x12, a write's code with a count above 0, a take's 0x10, so that a loop
- *   which polls take leaves 0x10 here. 0x00 leaves it as it was.
+ *   which polls take leaves 0x10 here. A list is one call with one code. 0x00 leaves it as it was.
  *   - The calls are those of this section, and a connect that is answered 0x14. Frames and advances leave it, whatever their code; so do a connect
  *   with another refusal, and 0x1A and 0x02, since they concern no open channel. Disconnect and close end it with the channel.
  *   - Asking writes nothing but the number, and is itself no such call.

@@ -115,6 +115,8 @@ static const struct {
     {"start and stop a filter", core_filters, twin_run_filters},
     {"start and stop a periodic", core_periodics, twin_run_periodics},
     {"get and set", core_settings, twin_run_settings},
+    {"set a list of 2", core_set_list, twin_run_set_list},
+    {"get a list of 2", core_get_list, twin_run_get_list},
     {"last error", core_last_error, twin_run_last_error},
     {"clear", core_clear, twin_run_clear},
     {"connect and disconnect", core_connect, twin_run_connect},

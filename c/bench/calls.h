@@ -76,6 +76,21 @@ static unsigned SIDE(settings)(uint8_t *m) {
     return 16;
 }
 
+static unsigned SIDE(set_list)(uint8_t *m) {
+    struct CALL(pair) two[2] = {{1, 500000}, {3, 0}};
+    for (uint32_t i = 0; i < 16; i++) {
+        two[1].value = i / 4 & 1;
+        keep(CALL(set_list)(m, MEMORY, 1 + (i & 3), two, 2));
+    }
+    return 16;
+}
+
+static unsigned SIDE(get_list)(uint8_t *m) {
+    struct CALL(pair) two[2] = {{1, 0}, {3, 0}};
+    for (uint32_t i = 0; i < 16; i++) keep(CALL(get_list)(m, MEMORY, 1 + (i & 3), two, 2) + two[0].value + two[1].value);
+    return 16;
+}
+
 static unsigned SIDE(last_error)(uint8_t *m) {
     uint32_t v;
     for (uint32_t i = 0; i < 16; i++) keep(CALL(last_error)(m, MEMORY, 1 + (i & 3), &v) + v);

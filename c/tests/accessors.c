@@ -44,6 +44,7 @@ static void by_hand(void) {
     must(memcmp(r, wide, sizeof r) == 0, "a record made");
     says(read, 0x101, 0, 0x12345678, 6, 0x1FFFFFFF);
     must(trawl_record_data(read)[0] == 0xAB && trawl_record_data(read)[1] == 0xCD, "data bytes");
+    must(sizeof(struct trawl_pair) == 8 && offsetof(struct trawl_pair, parameter) == 0 && offsetof(struct trawl_pair, value) == 4, "a pair");
     must(trawl_clear_kind(0x07) == TRAWL_CLEAR_WRITTEN && trawl_clear_kind(0x08) == TRAWL_CLEAR_RECEIVED, "kinds 1 and 2");
     must(trawl_clear_kind(0x09) == TRAWL_CLEAR_PERIODICS && trawl_clear_kind(0x0A) == TRAWL_CLEAR_FILTERS, "kinds 3 and 4");
     for (k = 0; k < 300; k++)

@@ -40,17 +40,41 @@ void to_record(uint8_t *record, const PASSTHRU_MSG *from) {
     trawl_store32(record, (uint32_t)from->ProtocolID);
 }
 
+/* GET_CONFIG and SET_CONFIG: the list becomes pairs, and what was written becomes the list again */
+uint32_t config(uint8_t *memory, size_t length, uint32_t channel, unsigned long ioctl, SCONFIG_LIST *list);
+uint32_t config(uint8_t *memory, size_t length, uint32_t channel, unsigned long ioctl, SCONFIG_LIST *list) {
+    struct trawl_pair pairs[TRAWL_PAIRS + 1]; /* with one more the core gives the code for too many */
+    size_t i, n = list->NumOfParams > TRAWL_PAIRS ? TRAWL_PAIRS + 1 : (size_t)list->NumOfParams;
+    uint32_t code;
+    for (i = 0; i < n; i++) {
+        pairs[i].parameter = (uint32_t)list->ConfigPtr[i].Parameter;
+        pairs[i].value = (uint32_t)list->ConfigPtr[i].Value;
+    }
+    if (ioctl == SET_CONFIG) return trawl_set_list(memory, length, channel, pairs, n);
+    code = trawl_get_list(memory, length, channel, pairs, n);
+    for (i = 0; i < n; i++) list->ConfigPtr[i].Value = pairs[i].value;
+    return code;
+}
+
 /* the file is a program, so that C++ links the calls too */
 int main(void) {
     static uint8_t box[TRAWL_MEMORY], record[TRAWL_RECORD];
     static PASSTHRU_MSG message;
+    static SCONFIG two[2], many[TRAWL_PAIRS + 1];
+    SCONFIG_LIST list;
     uint32_t channel, count, last;
     message.ProtocolID = CAN, message.TxFlags = CAN_29BIT_ID, message.DataSize = 5;
     message.Data[0] = 0x18, message.Data[1] = 0xDA, message.Data[2] = 0xF1, message.Data[3] = 0x10, message.Data[4] = 0x3E;
     to_record(record, &message);
     if (trawl_power_on(box, sizeof box) != STATUS_NOERROR) return 1;
     if (trawl_connect(box, sizeof box, 3, CAN, CAN_29BIT_ID, 250000, &channel) != STATUS_NOERROR) return 2;
-    if (trawl_set(box, sizeof box, channel, LOOPBACK, 1) != STATUS_NOERROR) return 3;
+    two[0].Parameter = LOOPBACK, two[0].Value = 1, two[1].Parameter = DATA_RATE, two[1].Value = 500000;
+    list.NumOfParams = 2, list.ConfigPtr = two;
+    if (config(box, sizeof box, channel, SET_CONFIG, &list) != STATUS_NOERROR) return 3;
+    two[0].Value = two[1].Value = 77;
+    if (config(box, sizeof box, channel, GET_CONFIG, &list) != STATUS_NOERROR || two[0].Value != 1 || two[1].Value != 500000) return 12;
+    list.NumOfParams = TRAWL_PAIRS + 1, list.ConfigPtr = many;
+    if (config(box, sizeof box, channel, SET_CONFIG, &list) != ERR_NULL_PARAMETER) return 13;
     if (trawl_write(box, sizeof box, channel, 1, record, sizeof record, &count) != STATUS_NOERROR || count != 1) return 4;
     if (trawl_take(box, sizeof box, channel, record, sizeof record) != STATUS_NOERROR) return 5;
     if (trawl_sent(box, sizeof box, channel) != STATUS_NOERROR) return 6;

@@ -27,9 +27,11 @@ static int memory_guarded(const uint8_t *room) {
     return 1;
 }
 
-/* 01's own distinction of refusals and results */
+static int is_list(const event *e) { return e->kind == SET_LIST || e->kind == GET_LIST; }
+
+/* 01's own distinction of refusals and results; lists are looked at pair by pair */
 static int refused(const event *e, reply r) {
-    if (r.code == 0x00 || r.code == 0x09 || r.code == 0x12) return 0;
+    if (r.code == 0x00 || r.code == 0x09 || r.code == 0x12 || is_list(e)) return 0;
     return !(e->kind == WRITE && r.value > 0);
 }
 
@@ -67,6 +69,25 @@ static void ask(const event *e, uint64_t turn) {
     if (memcmp(before, core, TRAWL_MEMORY)) fail("asking changed the memory", e, turn);
 }
 
+/* a list did what its pairs do one by one, up to the first that is refused: the memory and the list as they were before, and the answer */
+static void one_by_one(uint8_t *memory, const event *e, lent *after, reply r, uint64_t turn) {
+    static lent list;
+    uint32_t code = 0x00, parameter, value, given;
+    int open = e->a >= 1 && e->a <= 4 && memory[region_of(e->a)];
+    list = e->first;
+    if (!open) code = 0x02;
+    else if (pairs_of(&list) > TRAWL_PAIRS) code = memory[last_of(e->a)] = 0x04;
+    for (size_t i = 0; code == 0x00 && i < pairs_of(&list); i++) {
+        pair_at(&list, i, &parameter, &value);
+        if (e->kind == SET_LIST) code = trawl_set(memory, TRAWL_MEMORY, e->a, parameter, value);
+        else code = trawl_get(memory, TRAWL_MEMORY, e->a, parameter, &given);
+        if (code == 0x00 && e->kind == GET_LIST) put_pair(&list, i, parameter, given);
+    }
+    if (r.code != code) fail("a list's code, against its pairs one by one", e, turn);
+    if (memcmp(memory, core, TRAWL_MEMORY)) fail("a list's memory, against its pairs one by one", e, turn);
+    if (memcmp(list.room, after->room, sizeof list.room)) fail("a list's pairs, against its pairs one by one", e, turn);
+}
+
 /* one event on both: same code, value, buffers and memory; a refusal changes nothing but the last code of its channel; guards stay */
 static reply both(event *e, uint64_t turn) {
     static uint8_t before[TRAWL_MEMORY];
@@ -82,6 +103,7 @@ static reply both(event *e, uint64_t turn) {
         if (memcmp(mine.first.room, e->first.room, sizeof mine.first.room)) fail("a refusal changed a buffer", e, turn);
         if (a.value != 0) fail("a refusal gave a number", e, turn);
     }
+    if (is_list(e)) one_by_one(before, e, &mine.first, a, turn);
     b = on_twin(twin, TRAWL_MEMORY, e);
     if (a.code != b.code) fail("code", e, turn);
     if (a.value != b.value) fail("value", e, turn);
@@ -262,6 +284,38 @@ static void short_buffers(void) {
             }
 }
 
+/* ---- lists of every length, refused at every place, in every way, by both calls ---- */
+
+static void list_of(uint32_t n, uint32_t place, uint32_t parameter, uint32_t value) {
+    static event e;
+    for (int kind = SET_LIST; kind <= GET_LIST; kind++)
+        for (uint32_t channel = 0; channel <= 5; channel++) {
+            memset(&e, 0, sizeof e);
+            e.kind = kind, e.a = channel;
+            lend(&e.first, PAIR * n), lend(&e.second, 0);
+            for (uint32_t i = 0; i < n; i++) {
+                uint32_t which = chance(50) ? 1 : 3; /* most stand there more than once */
+                put_pair(&e.first, i, which, which == 3 ? below(2) : chance(50) ? 250000 : 500000);
+            }
+            if (place < n) put_pair(&e.first, place, parameter, value);
+            both(&e, n);
+        }
+}
+
+static void lists(void) {
+    static const uint32_t bad[][2] = {{0, 0}, {2, 1}, {9, 500000}, {257, 0}, {0xFFFFFFFF, 1}, {1, 125000}, {1, 0}, {1, 500001}, {3, 2}, {3, 0x100}};
+    static const uint32_t many[] = {17, 18, 32, 33, 256, 257, 272, 512};
+    busy();
+    old_rate(1);
+    for (uint32_t n = 0; n <= 17; n++) {
+        list_of(n, n, 0, 0);
+        for (uint32_t place = 0; place < n; place++)
+            for (size_t k = 0; k < sizeof bad / sizeof *bad; k++) list_of(n, place, bad[k][0], bad[k][1]);
+        if (n % 6 == 0) old_rate(n % 4);
+    }
+    for (size_t k = 0; k < sizeof many / sizeof *many; k++) list_of(many[k], 0, 9, 9), list_of(many[k], many[k], 0, 0);
+}
+
 /* ---- demand 3 as an experiment ---- */
 
 static int concerns(uint32_t line, const event *e) {
@@ -331,11 +385,12 @@ int main(int argc, char **argv) {
     sequences(100 * rounds);
     damaged(rounds);
     short_buffers();
+    lists();
     isolation(20 * rounds);
     for (int k = 1; k <= KINDS; k++)
         for (int c = 0; c < 0x20; c++) total += counted[k][c], codes += counted[k][c] != 0;
     printf("core and twin agree: %lu calls, %lu pairs of call and code, the last code of each channel after each, %lu channels made to hold 125,000, "
-           "verdicts on damaged memories, short buffers, isolation\n",
+           "verdicts on damaged memories, short buffers, lists, isolation\n",
            total, codes, olds);
     return 0;
 }

@@ -49,6 +49,8 @@ int main(void) {
     NONE_ALONE(trawl_clear(NULL, 0, 1, 1));
     NONE(trawl_get(NULL, 0, 1, 1, &v), v);
     NONE_ALONE(trawl_set(NULL, 0, 1, 3, 1));
+    NONE_ALONE(trawl_set_list(NULL, 0, 1, NULL, 0));
+    NONE_ALONE(trawl_get_list(NULL, 0, 1, NULL, 0));
     NONE(trawl_last_error(NULL, 0, 1, &v), v);
 
     must(trawl_power_on(box, sizeof box) == 0 && trawl_connect(box, sizeof box, 0, 5, 0, 500000, &v) == 0, "connect");
@@ -62,6 +64,10 @@ int main(void) {
     NOTED(0x04, 0, trawl_read(box, sizeof box, 1, 1, NULL, 0, &v), v);
     STAYS(0x00, 0, trawl_read(box, sizeof box, 1, 0, NULL, 0, &v), v);
     NOTED(0x04, 77, trawl_take(box, sizeof box, 1, NULL, 0), v);
+    STAYS(0x00, 77, trawl_set_list(box, sizeof box, 1, NULL, 0), v);
+    STAYS(0x00, 77, trawl_get_list(box, sizeof box, 1, NULL, 0), v);
+    STAYS(0x02, 77, trawl_set_list(box, sizeof box, 2, NULL, 0), v);
+    STAYS(0x02, 77, trawl_get_list(box, sizeof box, 2, NULL, 0), v);
     STAYS(0x13, 77, trawl_frame(box, sizeof box, 4, 0, 0, NULL, 0), v);
     STAYS(0x00, 77, trawl_frame(box, sizeof box, 0, 0, 0x7E8, NULL, 0), v); /* no filter lets nothing in */
 

@@ -1,4 +1,5 @@
-/* A j2534.h as they usually are, for the test that ours lives beside it: J2534-1's numbers by its names, as plain #defines, and its message. */
+/* A j2534.h as they usually are, for the test that ours lives beside it: J2534-1's numbers by its names, as plain #defines, its message, its
+ * lists. */
 #ifndef J2534_USUAL_H
 #define J2534_USUAL_H
 
@@ -67,5 +68,15 @@ typedef struct {
     unsigned long ExtraDataIndex;
     unsigned char Data[4128];
 } PASSTHRU_MSG;
+
+typedef struct {
+    unsigned long Parameter;
+    unsigned long Value;
+} SCONFIG;
+
+typedef struct {
+    unsigned long NumOfParams;
+    SCONFIG *ConfigPtr;
+} SCONFIG_LIST;
 
 #endif

@@ -211,6 +211,30 @@ static void reading(void) {
     NOTES(BOTH, 0x10, trawl_read(BOX, BOTH, 32, R(out), &number));
 }
 
+/* refused before any pair is done, or at the first: nothing but the last code changes, and the lists stay */
+static void lists(void) {
+    static const struct trawl_pair seventeen[17] = {{2, 9}, {1, 9}, {3, 1}}, value[3] = {{1, 9}, {2, 9}, {3, 1}}, old[1] = {{1, 125000}};
+    static struct trawl_pair out[17];
+    memcpy(out, seventeen, sizeof out);
+    GIVES(0x1A, trawl_set_list(BROKEN, 5, seventeen, 17));
+    GIVES(0x1A, trawl_set_list(SHORT, 5, seventeen, 17));
+    GIVES(0x02, trawl_set_list(BOX, 5, seventeen, 17));
+    GIVES(0x02, trawl_set_list(BOX, CLOSED, seventeen, 17));
+    NOTES(BOTH, 0x04, trawl_set_list(BOX, BOTH, seventeen, 17));
+    NOTES(BOTH, 0x01, trawl_set_list(BOX, BOTH, seventeen, 16));
+    NOTES(BOTH, 0x05, trawl_set_list(BOX, BOTH, value, 3));
+    NOTES(BOTH, 0x05, trawl_set_list(BOX, BOTH, old, 1));
+    NOTES(BOTH, 0x00, trawl_set_list(BOX, BOTH, value, 0));
+    GIVES(0x1A, trawl_get_list(BROKEN, 5, out, 17));
+    GIVES(0x1A, trawl_get_list(SHORT, 5, out, 17));
+    GIVES(0x02, trawl_get_list(BOX, 5, out, 17));
+    GIVES(0x02, trawl_get_list(BOX, CLOSED, out, 17));
+    NOTES(BOTH, 0x04, trawl_get_list(BOX, BOTH, out, 17));
+    NOTES(BOTH, 0x01, trawl_get_list(BOX, BOTH, out, 16));
+    NOTES(BOTH, 0x00, trawl_get_list(BOX, BOTH, out, 0));
+    must(memcmp(out, seventeen, sizeof out) == 0, "a refused list stays");
+}
+
 static void settings(void) {
     GIVES(0x1A, trawl_get(BROKEN, 5, 2, &number));
     GIVES(0x02, trawl_get(BOX, 5, 2, &number));
@@ -224,6 +248,7 @@ static void settings(void) {
     NOTES(BOTH, 0x05, trawl_set(BOX, BOTH, 1, 125000));
     NOTES(BOTH, 0x05, trawl_set(BOX, BOTH, 3, 2));
     NOTES(BOTH, 0x00, trawl_set(BOX, BOTH, 3, 1));
+    lists();
     GIVES(0x1A, trawl_clear(BROKEN, 5, 5));
     GIVES(0x02, trawl_clear(BOX, 5, 5));
     NOTES(BOTH, 0x0F, trawl_clear(BOX, BOTH, 0));

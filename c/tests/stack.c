@@ -14,6 +14,7 @@ enum { STACK = 131072, FEW = 32 };
 static uint8_t idle[TRAWL_MEMORY], full[TRAWL_MEMORY], broken[TRAWL_MEMORY], box[TRAWL_MEMORY];
 static uint8_t message[TRAWL_RECORD], many[40 * TRAWL_RECORD], telegram[TRAWL_TELEGRAM], eight[8], out[TRAWL_REPLAY_ROOM(FEW)];
 static const uint8_t recording[] = {1, 0, 5, 0, 0xA0, 0xC2, 0x1E, 4, 1, 5, 0, 0, 1, 2, 1, 2, 11, 1, 1, 12, 1, 13, 1, 14, 1, 1, 15, 1, 1, 16, 1, 3, 1};
+static struct trawl_pair pairs[TRAWL_PAIRS];
 static uint32_t number;
 static size_t length;
 
@@ -38,6 +39,8 @@ static void do_sent(void) { trawl_sent(BOX, 1); }
 static void do_clear(void) { trawl_clear(BOX, 1, 3); }
 static void do_get(void) { trawl_get(BOX, 1, 1, &number); }
 static void do_set(void) { trawl_set(BOX, 1, 3, 1); }
+static void do_set_list(void) { trawl_set_list(BOX, 1, pairs, TRAWL_PAIRS); }
+static void do_get_list(void) { trawl_get_list(BOX, 1, pairs, TRAWL_PAIRS); }
 static void do_last_error(void) { trawl_last_error(BOX, 1, &number); }
 static void do_read_telegram(void) { trawl_read_telegram(0, 0, (const uint8_t *)"\xA0\x0F\x8A\xFF\x32\xFF", 6, telegram, sizeof telegram); }
 static void do_write_telegram(void) { trawl_write_telegram(telegram, sizeof telegram, eight, 8, &number); }
@@ -50,7 +53,8 @@ static const struct {
 } calls[] = {{"valid", do_valid}, {"power_on", do_power_on}, {"connect", do_connect}, {"close", do_close}, {"advance", do_advance},
              {"frame", do_frame}, {"disconnect", do_disconnect}, {"start_filter", do_start_filter}, {"stop_filter", do_stop_filter},
              {"start_periodic", do_start_periodic}, {"stop_periodic", do_stop_periodic}, {"write", do_write}, {"read", do_read},
-             {"take", do_take}, {"sent", do_sent}, {"clear", do_clear}, {"get", do_get}, {"set", do_set}, {"last_error", do_last_error},
+             {"take", do_take}, {"sent", do_sent}, {"clear", do_clear}, {"get", do_get}, {"set", do_set}, {"set_list", do_set_list},
+             {"get_list", do_get_list}, {"last_error", do_last_error},
              {"read_telegram", do_read_telegram}, {"write_telegram", do_write_telegram}, {"time", do_time}, {"replay", do_replay}};
 
 /* ---- a painted stack ---- */
@@ -74,6 +78,7 @@ static void boxes(void) {
     uint32_t v, i;
     trawl_record_make(message, 0, 0x7E8, data, 8);
     for (i = 0; i < 40; i++) memcpy(many + 36 * i, message, 36);
+    for (i = 0; i < TRAWL_PAIRS; i++) pairs[i].parameter = i & 1 ? TRAWL_DATA_RATE : TRAWL_LOOPBACK, pairs[i].value = i & 1 ? 500000 : 1;
     trawl_power_on(idle, sizeof idle);
     for (i = 0; i < 3; i++) trawl_connect(idle, sizeof idle, i, 5, 0, 500000, &v);
     memcpy(full, idle, sizeof full);

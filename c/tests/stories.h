@@ -102,10 +102,70 @@ static void SIDE(results)(void) {
     ASKED(0x12, 4);
 }
 
+/* lists of parameters, one after the other on the same channel */
+static void SIDE(lists)(void) {
+    uint32_t v;
+    struct CALL(pair) set[4] = {{3, 1}, {1, 250000}, {9, 0}, {3, 0}}, got[3] = {{3, 77}, {9, 78}, {1, 79}};
+    struct CALL(pair) three[3] = {{1, 250000}, {3, 2}, {1, 500000}}, twice[2] = {{3, 0}, {3, 1}}, both[2] = {{1, 77}, {3, 78}};
+    struct CALL(pair) wrong[2] = {{3, 1}, {9, 9}}, old[3] = {{3, 0}, {1, 125000}, {3, 1}}, seventeen[17], sixteen[17];
+    for (int i = 0; i < 17; i++) seventeen[i].parameter = sixteen[i].parameter = 3, seventeen[i].value = 0, sixteen[i].value = 0x900 + (uint32_t)i;
+    CODE(0x00, CALL(power_on)(BOX));
+    CODE(0x00, CALL(connect)(BOX, 0, 5, 0, 500000, &v));
+
+    CODE(0x01, CALL(set_list)(BOX, 1, set, 4)); /* what stands before the refused pair is in force, what stands behind it isn't */
+    GIVES(0x00, 1, CALL(get)(BOX, 1, 3, &v));
+    GIVES(0x00, 250000, CALL(get)(BOX, 1, 1, &v));
+    must(set[0].parameter == 3 && set[0].value == 1 && set[2].parameter == 9 && set[2].value == 0 && set[3].value == 0, "a list set is only read");
+    ASKED(0x01, 1);
+
+    CODE(0x01, CALL(get_list)(BOX, 1, got, 3));
+    must(got[0].parameter == 3 && got[0].value == 1, "written before the refused pair");
+    must(got[1].parameter == 9 && got[1].value == 78 && got[2].parameter == 1 && got[2].value == 79, "left from the refused pair on");
+
+    CODE(0x05, CALL(set_list)(BOX, 1, three, 3));
+    GIVES(0x00, 250000, CALL(get)(BOX, 1, 1, &v));
+    ASKED(0x05, 1);
+
+    CODE(0x04, CALL(set_list)(BOX, 1, seventeen, 17));
+    GIVES(0x00, 1, CALL(get)(BOX, 1, 3, &v)); /* none of them was set */
+    ASKED(0x04, 1);
+    CODE(0x02, CALL(set_list)(BOX, 2, seventeen, 17));
+    CODE(0x02, CALL(get_list)(BOX, 2, seventeen, 17));
+    CODE(0x1A, CALL(set_list)(box, sizeof box - 1, 1, seventeen, 17));
+    CODE(0x00, CALL(set_list)(BOX, 1, seventeen, 16));
+    GIVES(0x00, 0, CALL(get)(BOX, 1, 3, &v)); /* sixteen are */
+    ASKED(0x04, 1); /* 0x00 leaves it */
+    CODE(0x04, CALL(get_list)(BOX, 1, sixteen, 17));
+    must(sixteen[0].value == 0x900 && sixteen[16].value == 0x910, "none is written");
+    CODE(0x00, CALL(get_list)(BOX, 1, sixteen, 16));
+    for (int i = 0; i < 17; i++) must(sixteen[i].parameter == 3 && sixteen[i].value == (i < 16 ? 0u : 0x910u), "sixteen are");
+
+    CODE(0x00, CALL(set_list)(BOX, 1, twice, 2)); /* the later one wins */
+    GIVES(0x00, 1, CALL(get)(BOX, 1, 3, &v));
+    CODE(0x00, CALL(set_list)(BOX, 1, twice, 0));
+    CODE(0x00, CALL(get_list)(BOX, 1, twice, 0));
+    GIVES(0x00, 1, CALL(get)(BOX, 1, 3, &v));
+    CODE(0x00, CALL(get_list)(BOX, 1, both, 2));
+    must(both[0].parameter == 1 && both[0].value == 250000 && both[1].parameter == 3 && both[1].value == 1, "both parameters");
+
+    CODE(0x00, CALL(set)(BOX, 1, 3, 0));
+    CODE(0x01, CALL(set_list)(BOX, 1, wrong, 2));
+    ASKED(0x01, 1); /* one code, of the whole list */
+    GIVES(0x00, 1, CALL(get)(BOX, 1, 3, &v));
+
+    CODE(0x05, CALL(set_list)(BOX, 1, old, 3)); /* 125,000 is retired in lists too */
+    GIVES(0x00, 0, CALL(get)(BOX, 1, 3, &v));
+    GIVES(0x00, 250000, CALL(get)(BOX, 1, 1, &v));
+    trawl_store32(box + region_of(1) + 5, 125000);
+    CODE(0x00, CALL(get_list)(BOX, 1, both, 2)); /* and told where it is still in force */
+    must(both[0].value == 125000 && both[1].value == 0, "125,000 in force");
+}
+
 static void SIDE(all)(void) {
     SIDE(retired)();
     SIDE(went_wrong)();
     SIDE(results)();
+    SIDE(lists)();
 }
 
 #undef ASKED

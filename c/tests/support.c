@@ -44,6 +44,20 @@ int guarded(const lent *b) {
     return 1;
 }
 
+/* ---- lists ---- */
+
+size_t pairs_of(const lent *b) { return b->n / PAIR; }
+
+void pair_at(const lent *b, size_t i, uint32_t *parameter, uint32_t *value) {
+    memcpy(parameter, b->room + GUARD + PAIR * i, sizeof *parameter);
+    memcpy(value, b->room + GUARD + PAIR * i + sizeof *parameter, sizeof *value);
+}
+
+void put_pair(lent *b, size_t i, uint32_t parameter, uint32_t value) {
+    memcpy(bytes(b) + PAIR * i, &parameter, sizeof parameter);
+    memcpy(bytes(b) + PAIR * i + sizeof parameter, &value, sizeof value);
+}
+
 /* ---- the memory ---- */
 
 enum { CLOCK = 4, REGION = (TRAWL_MEMORY - CLOCK) / 4 };
@@ -95,7 +109,8 @@ static void some_pair(uint8_t *mask, uint8_t *pattern, int damage) {
 
 const char *name_of(int kind) {
     static const char *const names[] = {"-", "connect", "disconnect", "close", "advance", "frame", "start filter", "stop filter",
-                                        "start periodic", "stop periodic", "write", "read", "take", "sent", "clear", "get", "set", "last error"};
+                                        "start periodic", "stop periodic", "write", "read", "take", "sent", "clear", "get", "set",
+                                        "set list", "get list", "last error"};
     return names[kind];
 }
 
@@ -112,7 +127,8 @@ static uint32_t some_length(uint32_t good, int damage) {
 void random_event(event *e, int damage) {
     static const int often[] = {CONNECT,    DISCONNECT,     ADVANCE, ADVANCE, FRAME, FRAME, FRAME, FRAME, FRAME, FRAME, FRAME, FRAME, START_FILTER,
                                 STOP_FILTER, START_PERIODIC, STOP_PERIODIC, WRITE, WRITE, READ,  READ,  TAKE,  TAKE,  SENT,  SENT,  CLEAR,
-                                GET,        SET,            SET,     START_FILTER, START_PERIODIC, CONNECT, LAST_ERROR};
+                                GET,        SET,            SET,     START_FILTER, START_PERIODIC, CONNECT, LAST_ERROR, SET_LIST,
+                                GET_LIST};
     uint32_t channel = off(1 + below(4), damage / 4), flags, n;
     memset(e, 0, sizeof *e);
     e->kind = chance(1) ? (chance(10) ? CLOSE : DISCONNECT) : often[below(sizeof often / sizeof *often)];
@@ -170,6 +186,15 @@ void random_event(event *e, int damage) {
     case SET:
         e->b = off(ONE_OF(1, 3, 3), damage), e->c = off(e->b == 1 ? ONE_OF(125000, 250000, 500000) : below(2), damage);
         break;
+    case SET_LIST:
+    case GET_LIST:
+        n = chance(5) ? 16 + below(4) : below(6);
+        lend(&e->first, PAIR * n);
+        for (uint32_t i = 0; i < n; i++) {
+            uint32_t parameter = off(ONE_OF(1, 3), damage / 3);
+            put_pair(&e->first, i, parameter, off(parameter == 1 ? ONE_OF(125000, 250000, 250000, 500000, 500000) : below(2), damage / 3));
+        }
+        break;
     default:
         break;
     }
@@ -184,6 +209,17 @@ static uint32_t stale(int kind) {
 }
 
 #define PLAY(side)                                                                                                                        \
+    /* a list, and the guards around it, as an array of pairs; back in the event afterwards, whatever was written */                      \
+    static uint32_t list_on_##side(uint8_t *m, size_t length, event *e) {                                                                 \
+        struct CALL(pair) room[sizeof e->first.room / PAIR], *list = room + GUARD / PAIR;                                                 \
+        size_t n = pairs_of(&e->first);                                                                                                   \
+        uint32_t code;                                                                                                                    \
+        memcpy(room, e->first.room, sizeof room);                                                                                         \
+        code = e->kind == SET_LIST ? CALL(set_list)(m, length, e->a, list, n) : CALL(get_list)(m, length, e->a, list, n);                 \
+        memcpy(e->first.room, room, sizeof room);                                                                                         \
+        return code;                                                                                                                      \
+    }                                                                                                                                     \
+                                                                                                                                          \
     reply on_##side(uint8_t *m, size_t length, event *e) {                                                                                \
         reply r = {0, stale(e->kind)};                                                                                                    \
         uint8_t *p = bytes(&e->first), *q = bytes(&e->second);                                                                            \
@@ -205,6 +241,7 @@ static uint32_t stale(int kind) {
         case CLEAR: r.code = CALL(clear)(m, length, e->a, e->b); break;                                                                   \
         case GET: r.code = CALL(get)(m, length, e->a, e->b, &r.value); break;                                                             \
         case SET: r.code = CALL(set)(m, length, e->a, e->b, e->c); break;                                                                 \
+        case SET_LIST: case GET_LIST: r.code = list_on_##side(m, length, e); break;                                                       \
         case LAST_ERROR: r.code = CALL(last_error)(m, length, e->a, &r.value); break;                                                     \
         default: break;                                                                                                                   \
         }                                                                                                                                 \

@@ -28,17 +28,23 @@ int guarded(const lent *b);   /* the guards are as they were */
 /* ---- events ---- */
 
 enum { CONNECT = 1, DISCONNECT, CLOSE, ADVANCE, FRAME, START_FILTER, STOP_FILTER, START_PERIODIC, STOP_PERIODIC, WRITE, READ, TAKE, SENT,
-       CLEAR, GET, SET, LAST_ERROR, KINDS = LAST_ERROR }; /* up to SET by their numbers in recordings, which hold no others */
+       CLEAR, GET, SET, SET_LIST, GET_LIST, LAST_ERROR, KINDS = LAST_ERROR }; /* up to SET by their numbers in recordings, which hold no others */
 
 typedef struct {
     int kind;
     uint32_t a, b, c, d; /* the event's numbers, in the scope's order; a is the line or the channel */
-    lent first, second;  /* what it lends: mask, message, records, data or buffer; pattern */
+    lent first, second;  /* what it lends: mask, message, records, data, buffer or a list; pattern */
 } event;
 
 typedef struct {
     uint32_t code, value;
 } reply;
+
+/* a list in a lent buffer: how many pairs it has, and one of them */
+enum { PAIR = 8 };
+size_t pairs_of(const lent *b);
+void pair_at(const lent *b, size_t i, uint32_t *parameter, uint32_t *value);
+void put_pair(lent *b, size_t i, uint32_t parameter, uint32_t value);
 
 const char *name_of(int kind);
 void random_event(event *e, int damage); /* damage: percent of numbers, records and lengths that are off */

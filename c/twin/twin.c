@@ -3,7 +3,7 @@
 
 #include <string.h>
 
-enum { FILTERS = 10, PERIODICS = 10, WRITTEN = 16, QUEUE = 32, RECORD = 36, ROW = 12 };
+enum { FILTERS = 10, PERIODICS = 10, WRITTEN = 16, QUEUE = 32, PAIRS = 16, RECORD = 36, ROW = 12 };
 
 /* ---- the memory as a struct of bytes, by docs/LAYOUT.md ---- */
 
@@ -439,6 +439,7 @@ static uint32_t clear(channel_t *c, uint32_t kind) {
     }
 }
 
+/* a refused one leaves the value */
 static uint32_t get(const channel_t *c, uint32_t parameter, uint32_t *value) {
     if (parameter == 1) {
         *value = get32(c->rate);
@@ -463,6 +464,22 @@ static uint32_t set(channel_t *c, uint32_t parameter, uint32_t value) {
         return 0;
     }
     return 0x01;
+}
+
+/* ---- lists: pair by pair until one is refused ---- */
+
+static uint32_t set_list(channel_t *c, const struct twin_pair *pairs, size_t count) {
+    uint32_t code = 0;
+    if (count > PAIRS) return 0x04;
+    for (size_t i = 0; i < count && !code; i++) code = set(c, pairs[i].parameter, pairs[i].value);
+    return code;
+}
+
+static uint32_t get_list(const channel_t *c, struct twin_pair *pairs, size_t count) {
+    uint32_t code = 0;
+    if (count > PAIRS) return 0x04;
+    for (size_t i = 0; i < count && !code; i++) code = get(c, pairs[i].parameter, &pairs[i].value);
+    return code;
 }
 
 /* ---- the same as calls on a channel: 0x1A and 0x02 first, and the code is kept ---- */
@@ -538,6 +555,18 @@ uint32_t twin_set(uint8_t *m, size_t len, uint32_t channel, uint32_t parameter, 
     channel_t *c;
     uint32_t code = find(m, len, channel, &c);
     return code ? code : noted(c, set(c, parameter, value));
+}
+
+uint32_t twin_set_list(uint8_t *m, size_t len, uint32_t channel, const struct twin_pair *pairs, size_t count) {
+    channel_t *c;
+    uint32_t code = find(m, len, channel, &c);
+    return code ? code : noted(c, set_list(c, pairs, count));
+}
+
+uint32_t twin_get_list(uint8_t *m, size_t len, uint32_t channel, struct twin_pair *pairs, size_t count) {
+    channel_t *c;
+    uint32_t code = find(m, len, channel, &c);
+    return code ? code : noted(c, get_list(c, pairs, count));
 }
 
 /* asking is not kept */

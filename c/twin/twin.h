@@ -28,6 +28,14 @@ uint32_t twin_sent(uint8_t *m, size_t len, uint32_t channel);
 uint32_t twin_clear(uint8_t *m, size_t len, uint32_t channel, uint32_t kind);
 uint32_t twin_get(uint8_t *m, size_t len, uint32_t channel, uint32_t parameter, uint32_t *value);
 uint32_t twin_set(uint8_t *m, size_t len, uint32_t channel, uint32_t parameter, uint32_t value);
+
+/* Lists of parameters and values. */
+struct twin_pair {
+    uint32_t parameter, value;
+};
+uint32_t twin_set_list(uint8_t *m, size_t len, uint32_t channel, const struct twin_pair *pairs, size_t count);
+uint32_t twin_get_list(uint8_t *m, size_t len, uint32_t channel, struct twin_pair *pairs, size_t count);
+
 uint32_t twin_last_error(const uint8_t *m, size_t len, uint32_t channel, uint32_t *code);
 
 /* While this is not 0 the calls above trust the memory and do not look whether it is valid: for comparing the inner calls. */
