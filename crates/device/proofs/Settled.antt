@@ -1,4 +1,4 @@
--- ANY TWO OUTCOMES OF A PUBLIC CALL ARE EQUAL: said of each of the 18 calls, of connect and set with rates that are lent, and of the look at the
+-- ANY TWO OUTCOMES OF A PUBLIC CALL ARE EQUAL: said of each of the 20 calls, of connect and set with rates that are lent, and of the look at the
 -- memory, over the very postcondition that the function is proved to meet.
 -- An outcome is what the function returns and what it leaves in the memory and in a lent buffer. Assumes nothing.
 use mathlib.Core.Path.{sym, ap, _∙_}
@@ -9,6 +9,9 @@ use denote.Triple.Clauses.{Lasts, atExit}
 use borrow.Fn.Kinds.{PK, RK, Out, Dens, resT, endedOf}
 use Rattle.codec.specs.Settled.{Settled}
 use Rattle.layout.specs.Promise.{Result}
+use Rattle.device_lists.specs.declared.Pair.{Pair}
+use Rattle.device_lists.specs.Lists.{SetPost, GetPost}
+use Rattle.device_lists.proofs.Settled as lists
 use Rattle.validity.proofs.valid.Kinds as valid-kinds
 use Rattle.validity.proofs.valid.Reads as valid
 use Rattle.device_channels.proofs.connect.Kinds as connect-kinds
@@ -123,3 +126,11 @@ advance-settled κs a x y p q = ap (λ (s : Result). (s .code, (s .memory, x .1 
 
 pub frame-settled : OneOutcome 2 frame-kinds.ps frame-kinds.r frame.Post
 frame-settled κs a x y p q = ap (λ (s : Result). (s .code, (s .memory, x .1 .1))) (p ∙ sym q)
+
+-- the two lists, whose functions are walked by hand: `SetPost` and `GetPost` are their postconditions (device_lists, Settled `set-list-says`,
+-- `get-list-says`)
+pub set-list-settled : (m : List ℕ) (k : ℕ) (ps : List Pair) → Settled (SetPost m k ps)
+set-list-settled = lists.set-list-settled
+
+pub get-list-settled : (m : List ℕ) (k : ℕ) (ps : List Pair) → Settled (GetPost m k ps)
+get-list-settled = lists.get-list-settled

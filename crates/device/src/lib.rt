@@ -1,4 +1,4 @@
-// The 18 public calls of the box, on any bytes that are lent as its memory: each looks at the memory first, then does the call. The look itself
+// The 20 public calls of the box, on any bytes that are lent as its memory: each looks at the memory first, then does the call. The look itself
 // is `valid`.
 pub use device_channels::clear;
 pub use device_channels::connect;
@@ -10,6 +10,9 @@ pub use device_lines::advance;
 pub use device_lines::close;
 pub use device_lines::frame;
 pub use device_lines::power_on;
+pub use device_lists::Pair;
+pub use device_lists::get_list;
+pub use device_lists::set_list;
 pub use device_orders::start_filter;
 pub use device_orders::start_periodic;
 pub use device_orders::stop_filter;

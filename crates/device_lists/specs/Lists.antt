@@ -36,3 +36,10 @@ pub record Begun (m : List ℕ) (k n c : ℕ) (m′ : List ℕ) : Type 0 where
   pub found : c ≡ 0 → Found m k base
   pub few : c ≡ 0 → n ≤ mostPairs
   pub stays : c ≡ 0 → m′ ≡ m
+
+-- what a list promises: of a set its code and the memory that it leaves, of a get the list too
+abbrev pub SetPost : List ℕ → ℕ → List Pair → ℕ × List ℕ → Type 0
+SetPost m k ps x = gives (x .0) 0 [] (x .1) ≡ outcome twoRates m (call k (setList (listed ps)))
+
+abbrev pub GetPost : List ℕ → ℕ → List Pair → ℕ × (List ℕ × List Pair) → Type 0
+GetPost m k ps x = gives (x .0) 0 (flat (listed (x .1 .1))) (x .1 .0) ≡ outcome twoRates m (call k (getList (listed ps)))

@@ -1,17 +1,19 @@
-// The box as C calls it: numbers and byte slices only. A number that goes with a code is stored through a pointer, always: 0 where there is none.
+// The box as C calls it: numbers, byte slices and slices of two-number structs only. A number that goes with a code is stored through a pointer, always: 0 where there is none.
 ghost use mathlib.Core.Path.{_≡_};
 ghost use mathlib.Core.List.{[]};
 ghost use mathlib.Core.Bool.{not};
 ghost use lib.Dec.{eqb};
 ghost use Rattle.machine.specs.Codes.{twoRates};
-ghost use Rattle.machine.specs.Channel.{disconnect, clear, write, read, takeNext, sent, startFilter, stopFilter, startPeriodic, stopPeriodic, getParameter, setParameter, lastError};
+ghost use Rattle.machine.specs.Channel.{disconnect, clear, write, read, takeNext, sent, startFilter, stopFilter, startPeriodic, stopPeriodic, getParameter, setParameter, lastError, getList, setList, flat};
 ghost use Rattle.machine.specs.Device.{call, connect, close, advance, frame};
 ghost use Rattle.layout.specs.Memory.{valid};
 ghost use Rattle.layout.specs.Promise.{gives, outcome, powerOnOutcome};
+ghost use Rattle.device_lists.specs.Lists.{listed};
 ghost use Rattle.telegram.specs.Bits.{bitValue};
 ghost use Rattle.telegram.specs.Telegram.{timeOf, readAny};
 ghost use Rattle.recording.specs.Replay.{leaves, replayed};
 ghost use Rattle.telegram_record.specs.Crossing.{gave, reading, writing};
+use device::Pair;
 
 // A test as a number.
 fn bit(b: bool) -> u32
@@ -206,6 +208,22 @@ pub extern "C" fn trawl_set(mem: &mut [u8], channel: u32, parameter: u32, value:
     ensures { λ c. ⌜ gives c 0 [] (now (mem .exit)) ≡ outcome twoRates (now (mem .entry)) (call channel (setParameter parameter value)) ⌝ }
 {
     device::set(mem, channel, parameter, value)
+}
+
+// Sets a list of parameters, in order, up to the first refused one.
+#[no_mangle]
+pub extern "C" fn trawl_set_list(mem: &mut [u8], channel: u32, pairs: &[Pair]) -> u32
+    ensures { λ c. ⌜ gives c 0 [] (now (mem .exit)) ≡ outcome twoRates (now (mem .entry)) (call channel (setList (listed (now (pairs .entry))))) ⌝ }
+{
+    device::set_list(mem, channel, pairs)
+}
+
+// Gets a list of parameters, in order, each value in its own pair, up to the first refused one.
+#[no_mangle]
+pub extern "C" fn trawl_get_list(mem: &mut [u8], channel: u32, pairs: &mut [Pair]) -> u32
+    ensures { λ c. ⌜ gives c 0 (flat (listed (now (pairs .exit)))) (now (mem .exit)) ≡ outcome twoRates (now (mem .entry)) (call channel (getList (listed (now (pairs .entry))))) ⌝ }
+{
+    device::get_list(mem, channel, pairs)
 }
 
 // What went wrong last on a channel; asking changes nothing.
