@@ -10,7 +10,7 @@ use lib.Dec.{T, eqb, eqb→eq}
 use Rattle.machine.specs.Codes.{twoRates}
 use Rattle.machine.specs.Limits.{mostPairs}
 use Rattle.machine.specs.Channel.{Answer, says, Outcome, Pairs, flat, getParameter, setParameter, getList, setList, onCall, onOpen, noted}
-use Rattle.machine.specs.Device.{Device, call, step}
+use Rattle.machine.specs.Device.{Device, call}
 use Rattle.machine.proofs.Parameters.{get-few}
 use Rattle.machine.proofs.Pairs.{step-open}
 use Rattle.layout.specs.Memory.{load}

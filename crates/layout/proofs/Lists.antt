@@ -1,7 +1,7 @@
 -- LISTS OF PARAMETERS IN BYTES, with rates out of the three: a list one pair at a time on a valid memory with the channel open, and what a list leaves
 -- that a pair ended. Assumes nothing.
 use mathlib.Core.Path.{_≡_, refl, sym, ap, _∙_, subst}
-use Prim.Native.Nat.{ℕ, _+_, _*_, _-_, _≤_, _<_}
+use Prim.Native.Nat.{ℕ, _+_, _-_, _≤_, _<_}
 use native.Mathlib.Omega.{arith}
 use native.Mathlib.Nat.{suc-ne-zero}
 use mathlib.Core.Bool.{Bool, true, false, true≢false}
@@ -10,15 +10,14 @@ use lib.ListN.{length, getD, take, drop}
 use lib.Dec.{T}
 use borrow.Rule.Slice.PartMut.{midOf}
 use Rattle.codec.specs.Plain.{member}
-use Rattle.codec.proofs.Tests.{true-T}
 use Rattle.machine.specs.Limits.{lines, mostPairs}
-use Rattle.machine.specs.Channel.{Open, Chan, opened, Answer, says, Pairs, flat, getParameter, setParameter, getList, setList, onOpen}
-use Rattle.machine.specs.Device.{Device, Event, call, lentBy, chanAt, step}
+use Rattle.machine.specs.Channel.{Open, Answer, says, Pairs, flat, getParameter, setParameter, getList, setList, onOpen}
+use Rattle.machine.specs.Device.{Device, Event, call, step}
 use Rattle.machine.specs.Demands.{pairCodes, SetEnded, GetEnded}
 use Rattle.machine.proofs.Parameters.{set-many, get-many}
 use Rattle.machine.proofs.Pairs.{OpenAt, set-none, get-none, SetGoes, set-step, set-stop, get-leaves-all, get-step, get-stop, set-ended, get-ended}
 use Rattle.layout.specs.Sizes.{regionAt, regionSize}
-use Rattle.layout.specs.Memory.{memory, image, load, valid, region}
+use Rattle.layout.specs.Memory.{memory, image, load, valid}
 use Rattle.layout.specs.Promise.{Result, gives, answered, outcome, Opened, Found, notedIn}
 use Rattle.layout.specs.Reach.{Bytes}
 use Rattle.layout.specs.Runs.{SetListEnded, GetListEnded}

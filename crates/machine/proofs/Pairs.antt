@@ -1,12 +1,12 @@
 -- LISTS OF PARAMETERS, for any set of rates: one pair is the single call, a list is its single calls in a row, and what a list leaves that a pair
 -- ended; then the worked examples. Channels go by their line: channel number c is that of line c - 1. Assumes nothing.
 use mathlib.Core.Path.{_≡_, refl, sym, ap, ap₂, _∙_, subst}
-use Prim.Native.Nat.{ℕ, zero, suc, _+_, _-_, _≤_, _<_}
+use Prim.Native.Nat.{ℕ, _+_, _-_, _≤_, _<_}
 use native.Mathlib.Omega.{arith}
 use mathlib.Core.Bool.{Bool, true, false, true≢false}
 use mathlib.Core.List.{List, [], _∷_, _++_}
 use mathlib.Core.Logic.{_⊎_, inl, inr}
-use lib.ListN.{length, set, length-set, replicate, length-append}
+use lib.ListN.{length, length-set, length-append}
 use lib.Seq.{getD-set-same, set-set}
 use lib.Dec.{eqb, ltb}
 use borrow.Author.Tests.{eq-eqb, ne-eqb, ltb-true, ltb-false}
@@ -14,7 +14,7 @@ use Rattle.codec.specs.Plain.{if_then_else_, within, member}
 use Rattle.codec.proofs.Tests.{true-T, within-low, within-high}
 use Rattle.machine.specs.Limits.{lines, mostPairs}
 use Rattle.machine.specs.Channel.{Config, Open, Chan, closed, opened, withConfig, Pairs, flat, Call, getParameter, setParameter, getList, setList, Answer, says, Outcome, lent, getIn, setIn, setAll, getAll, onGet, setTo, onSet, onGetList, onSetList, onOpen, onCall, notes, noted}
-use Rattle.machine.specs.Device.{Device, Event, call, chanAt, step}
+use Rattle.machine.specs.Device.{Device, call, chanAt, step}
 use Rattle.machine.specs.Demands.{FourChannels, pairCodes, SetEnded, GetEnded, setSingly, getSingly}
 use Rattle.machine.proofs.Parameters.{either, set-more, set-no-more, get-more, get-no-more, set-few, get-few, set-many, get-many}
 use Rattle.machine.proofs.Dispatch.{withChan, withChan-same, step-call, step-no-channel}

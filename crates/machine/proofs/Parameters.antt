@@ -1,19 +1,18 @@
 -- One parameter and a list of them on a channel's configuration: the codes that there are, a list one pair at a time, and the same of the calls
 -- on a channel. Assumes nothing.
-use mathlib.Core.Path.{_≡_, refl, sym, ap, _∙_}
+use mathlib.Core.Path.{_≡_, refl, ap, _∙_}
 use Prim.Native.Nat.{ℕ, zero, suc, _≤_, _<_}
 use native.Mathlib.Nat.{suc-ne-zero}
-use native.Mathlib.Omega.{arith}
 use mathlib.Core.Bool.{Bool, true, false}
 use mathlib.Core.List.{List, [], _∷_, map}
 use mathlib.Core.Logic.{_⊎_, inl, inr}
 use lib.ListN.{length}
-use lib.Dec.{eqb, ltb}
+use lib.Dec.{eqb}
 use borrow.Author.Tests.{eq-eqb, ne-eqb, lt-ltb, le-ltb}
 use Rattle.codec.specs.Plain.{if_then_else_, within, member}
 use Rattle.machine.specs.Codes.{codeOf}
 use Rattle.machine.specs.Limits.{mostPairs}
-use Rattle.machine.specs.Channel.{Config, Open, Chan, opened, withConfig, Pairs, flat, Call, getParameter, setParameter, getList, setList, Answer, says, Outcome, unless, getIn, setIn, setAll, getAll, onGet, setTo, onSet, listCode, onGetList, onSetList, onOpen, onCall}
+use Rattle.machine.specs.Channel.{Config, Open, opened, Pairs, flat, says, unless, getIn, setIn, setAll, getAll, setTo, listCode, onGetList, onSetList}
 
 -- a code is 0 or not
 pub either : (n : ℕ) → (n ≡ 0) ⊎ (n ≡ 0 → ⊥)
