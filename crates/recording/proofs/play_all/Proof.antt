@@ -55,7 +55,7 @@ use Rattle.codec.specs.Plain.{zeros}
 use Rattle.layout.specs.Memory.{valid}
 use Rattle.recording.proofs.Playing.{same-memory}
 use Rattle.recording.proofs.Turning.{edition-known, State, state, Stepped, Moving, begun-at, ended-at, room-at, out-length, Nearer, turn-at}
-use Rattle.recording.proofs.Again.{LentAgain, lends-again, comes-back}
+use Rattle.walks.proofs.Again.{LentAgain, lends-again, comes-back}
 use Rattle.reader.proofs.Reader as T
 use Rattle.reader.proofs.Reader.Laws as T′
 use Rattle.playing.proofs.Turn as S
