@@ -1,0 +1,3 @@
+pub mod Limits
+pub mod Talk
+pub mod Iso
