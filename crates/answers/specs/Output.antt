@@ -6,7 +6,7 @@ use lib.ListN.{take}
 use Rattle.codec.specs.Plain.{if_then_else_}
 use Rattle.machine.specs.Limits.{recordSize}
 use Rattle.number.specs.Number.{bytesOf}
-use Rattle.machine.specs.Channel.{Call, disconnect, startFilter, stopFilter, startPeriodic, stopPeriodic, write, read, takeNext, sent, clear, getParameter, setParameter, lastError, getList, setList, Answer}
+use Rattle.machine.specs.Channel.{Call, disconnect, startFilter, startFlow, stopFilter, startPeriodic, stopPeriodic, write, read, takeNext, sent, clear, getParameter, setParameter, lastError, getList, setList, Answer}
 use Rattle.machine.specs.Device.{Event, connect, call, frame, advance, close}
 
 -- these bytes on 0x00, else none
@@ -18,6 +18,7 @@ onDone code more = if eqb code 0x00 then more else []
 unfoldable pub afterCall : Call → Answer → List ℕ
 afterCall disconnect a = []
 afterCall (startFilter t m p) a = onDone (a .code) (bytesOf (a .value))
+afterCall (startFlow t m p f) a = onDone (a .code) (bytesOf (a .value))
 afterCall (stopFilter n) a = []
 afterCall (startPeriodic m i) a = onDone (a .code) (bytesOf (a .value))
 afterCall (stopPeriodic n) a = []

@@ -15,7 +15,7 @@ pub use Rattle.iso.specs.Talk.{Reception, Stage, Transmission, Transfer,
 unfoldable pub use Rattle.iso.specs.Talk.{numberAfter, framed, firstFrame, nextFrame, flowFrame, gapOf, becomes, rxStart, arrived, ended, low, transmitting, onSingle, onFirst, onNext, onConsecutive, staged, onFlow, onFlowOf, listening, heard, laterStage, laterTransfer, gives, answerOf, nextOf, segmentOf, carries, startOf, airborne, sentStage, sentOf, wholeOf, doneOf}
 use Rattle.machine.specs.Message.{bit, widthFlag, idBytes, idOf, idLimit, takes, Rec, protocolOf, txFlagsOf, sizeOf, wideOf, dataOf, clean, received}
 use Rattle.machine.specs.Filter.{Slots, free, has, anySlot}
-use Rattle.machine.specs.Channel.{Config, Receiving, Call, disconnect, startFilter, stopFilter, startPeriodic, stopPeriodic, write, read, takeNext, sent, clear, getParameter, setParameter, lastError, getList, setList, Pairs, flat, lent, Answer, says, frameCode, readCode, isFlags, Wrote, unlessStopped, getIn, setIn, getAll, setAll, listCode}
+use Rattle.machine.specs.Channel.{Config, Receiving, Call, disconnect, startFilter, startFlow, stopFilter, startPeriodic, stopPeriodic, write, read, takeNext, sent, clear, getParameter, setParameter, lastError, getList, setList, Pairs, flat, lent, Answer, says, frameCode, readCode, isFlags, Wrote, unlessStopped, getIn, setIn, getAll, setAll, listCode}
 
 -- ---- the channel
 pub record Flight : Type 0 where
@@ -375,10 +375,11 @@ unfoldable pub onIsoConnect : List ℕ → Iso → ℕ → ℕ → ℕ → ℕ �
 onIsoConnect rates c line protocol flags rate =
     unlessIso (isoConnectCode rates protocol flags rate ((isReady c, 0x14) ∷ [])) c [] (did (freshIso flags rate) (line + firstIso))
 
--- no periodics here
+-- no periodics here; a start filter that lends no third record has a buffer too short
 unfoldable pub onReady : List ℕ → ℕ → OpenIso → Call → IsoOutcome
 onReady rates now o disconnect = (shut, says 0x00 0 [])
 onReady rates now o (startFilter type mask pattern) = onStartTalk o type mask pattern []
+onReady rates now o (startFlow type mask pattern flow) = onStartTalk o type mask pattern flow
 onReady rates now o (stopFilter number) = onStopTalk o number
 onReady rates now o (startPeriodic m interval) = (ready o, says (codeOf ((shorterIso m 1, 0x04) ∷ (true, 0x01) ∷ [])) 0 [])
 onReady rates now o (stopPeriodic number) = (ready o, says 0x0D 0 [])
@@ -398,12 +399,12 @@ unfoldable pub onIsoCall : List ℕ → ℕ → Iso → Call → IsoOutcome
 onIsoCall rates now shut x = (shut, says 0x02 0 (lent x))
 onIsoCall rates now (ready o) x = onReady rates now o x
 
--- a start filter that lends its third record, the flow
-unfoldable pub onFlowFilter : Iso → ℕ → List ℕ → List ℕ → List ℕ → IsoOutcome
-onFlowFilter shut type mask pattern flow = (shut, says 0x02 0 [])
-onFlowFilter (ready o) type mask pattern flow = onStartTalk o type mask pattern flow
-
 -- ---- what went wrong last
+-- the codes that a call on an open channel can give, and so what it can keep as its last: never 0x02, 0x0B, nor those of a connect but 0x14
+unfoldable pub isoCodes : List ℕ
+isoCodes =
+    0x00 ∷ 0x01 ∷ 0x04 ∷ 0x05 ∷ 0x07 ∷ 0x09 ∷ 0x0A ∷ 0x0C ∷ 0x0D ∷ 0x0F ∷ 0x10 ∷ 0x11 ∷ 0x12 ∷ 0x14 ∷ 0x15 ∷ 0x16 ∷ 0x17 ∷ 0x18 ∷ []
+
 -- a channel with the code that was given to a call on it as its last; 0x00 leaves what it had
 unfoldable pub isoNotes : ℕ → Iso → Iso
 isoNotes zero c = c

@@ -14,7 +14,7 @@ use Rattle.codec.specs.Plain.{if_then_else_, within, member, all}
 use Rattle.machine.specs.Codes.{stepCodes, table}
 use Rattle.machine.specs.Message.{Rec, received, widthFlag, idBytes, takes}
 use Rattle.machine.specs.Filter.{passes}
-use Rattle.machine.specs.Channel.{Chan, closed, opened, Open, Call, disconnect, startFilter, stopFilter, startPeriodic, stopPeriodic, write, read, takeNext, sent, clear, getParameter, setParameter, lastError, getList, setList, lent, Answer, says, Outcome, withConfig, withFilters, withSending, withReceiving, unless, doneWith, onStartFilter, onStopFilter, arrive, frameCode, offered, onFrame, reading, onRead, onWrite, onStartPeriodic, onStopPeriodic, onAdvance, Next, giving, chosen, next, taking, onTake, landed, sending, onSent, onClear, onGet, setTo, onSet, onGetList, onSetList, onConnect, fresh, onOpen, onCall, notes, noted, notedInUse}
+use Rattle.machine.specs.Channel.{Chan, closed, opened, Open, Call, disconnect, startFilter, startFlow, stopFilter, startPeriodic, stopPeriodic, write, read, takeNext, sent, clear, getParameter, setParameter, lastError, getList, setList, lent, Answer, says, Outcome, withConfig, withFilters, withSending, withReceiving, unless, doneWith, onStartFilter, onStopFilter, arrive, frameCode, offered, onFrame, reading, onRead, onWrite, onStartPeriodic, onStopPeriodic, onAdvance, Next, giving, chosen, next, taking, onTake, landed, sending, onSent, onClear, onGet, setTo, onSet, onGetList, onSetList, onConnect, fresh, onOpen, onCall, notes, noted, notedInUse}
 use Rattle.machine.specs.Device.{Device, Event, connect, call, frame, advance, close, chanAt, ownAnswer, step}
 use Rattle.machine.specs.Demands.{FourChannels, queueOf}
 use Rattle.machine.proofs.Dispatch.{withChan, step-connect, step-call, step-frame, step-advance, step-close, step-no-line, step-no-channel}
@@ -170,6 +170,7 @@ open-within : (rates : List ℕ) (now : ℕ) (o : Open) (x : Call) → Within x 
 unfolding onOpen doneWith afterCall queueOf withConfig withFilters withSending withReceiving onStartFilter onStopFilter onStartPeriodic onStopPeriodic onWrite onSent onClear onGet setTo onSet onGetList onSetList
 open-within rates now o disconnect = record { fits = omega arith }
 open-within rates now o (startFilter t m p) = refused-or (startFilter t m p) (done-number (startFilter t m p) (λ a. refl)) o _ _ _ (omega arith)
+open-within rates now o (startFlow t m p f) = refused-or (startFlow t m p f) (done-number (startFlow t m p f) (λ a. refl)) o _ _ _ (omega arith)
 open-within rates now o (stopFilter n) = refused-or (stopFilter n) (nothing-more (stopFilter n) (λ a. refl)) o _ _ _ (omega arith)
 open-within rates now o (startPeriodic m i) = refused-or (startPeriodic m i) (done-number (startPeriodic m i) (λ a. refl)) o _ _ _ (omega arith)
 open-within rates now o (stopPeriodic n) = refused-or (stopPeriodic n) (nothing-more (stopPeriodic n) (λ a. refl)) o _ _ _ (omega arith)
@@ -190,6 +191,7 @@ refused-short : (x : Call) (k : ℕ) (b : List ℕ) → length (afterCall x (say
 unfolding afterCall says
 refused-short disconnect k b = omega arith
 refused-short (startFilter t m p) k b = omega (arith, done-length k (bytesOf 0), number-length 0)
+refused-short (startFlow t m p f) k b = omega (arith, done-length k (bytesOf 0), number-length 0)
 refused-short (stopFilter n) k b = omega arith
 refused-short (startPeriodic m i) k b = omega (arith, done-length k (bytesOf 0), number-length 0)
 refused-short (stopPeriodic n) k b = omega arith
