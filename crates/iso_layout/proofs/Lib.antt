@@ -1,0 +1,6 @@
+pub mod Sizes
+pub mod Lawful
+pub mod Held
+pub mod Good
+pub mod Places
+pub mod Region

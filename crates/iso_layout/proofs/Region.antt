@@ -1,0 +1,105 @@
+-- The region of an open ISO 15765 channel: how a call that leaves it or moves it meets its promise, and its parts, each lent as a slice. Assumes
+-- nothing.
+use mathlib.Core.Path.{_≡_, refl, sym, ap, _∙_, subst}
+use Prim.Native.Nat.{ℕ, _+_, _*_, _<_}
+use mathlib.Core.Bool.{Bool}
+use mathlib.Core.Option.{Option, none}
+use mathlib.Core.List.{List}
+use lib.ListN.{getD, set, drop}
+use lib.Dec.{T}
+use Rattle.codec.specs.Code.{Code, byte, word32, via, such, mark, slot, getSlot, upTo}
+use Rattle.codec.proofs.Lawful.{Lawful, word-lawful, mark-lawful, mark-ok}
+use Rattle.codec.proofs.Lists.{all-at}
+use Rattle.codec.proofs.Many.{many-each, slot-lawful, upTo-lawful}
+use Rattle.codec.proofs.Place.{Place, inside}
+use Rattle.codec.proofs.Part.{Part, part}
+use Rattle.machine.specs.Channel.{Call, says}
+use Rattle.layout.specs.Memory.{config}
+use Rattle.layout.specs.Sizes.{numberSize, configSize, flagsAt, rateAt, loopbackAt}
+use Rattle.layout.specs.Promise.{gives}
+use Rattle.layout.proofs.Memory.{config-lawful}
+use Rattle.layout.proofs.Sizes.{config-size}
+use Rattle.iso.specs.Limits.{mostTalks, mostMessages}
+use Rattle.iso.specs.Iso.{Talk, OpenIso, Iso, shut, ready, setTalks, setConfig, setWritten, setFlight, setReceiving, setLast, onReady, onIsoCall}
+use Rattle.iso_layout.specs.Sizes.{talkSize, talksSize, messagesSize, isoFlightSize, heardSize, talksAt, messagesAt, isoFlightAt, heardAt, isoLastAt, isoRegionSize}
+use Rattle.iso_layout.specs.Region.{messageCell, talkCell, talksCode, flightCode, heardPart, isoLastPart, readyPart, isoChanBack, isoRegion}
+use Rattle.iso_layout.specs.Promise.{IsoOpened, isoGives, isoOutcome}
+use Rattle.iso_layout.proofs.Sizes.{slot-size, talks-size, messages-size, isoFlight-size, heardPart-size, isoLast-size, isoRegion-size}
+use Rattle.iso_layout.proofs.Lawful.{talk-lawful, talks-lawful, message-lawful, flight-lawful, heardPart-lawful, last-lawful, isoRegion-lawful}
+use Rattle.iso_layout.proofs.Good.{FineIso, fli, GoodIso, iso-good, good-talks, good-heard}
+use Rattle.iso_layout.proofs.Places.{iso-config-place, talks-place, talk-place, messages-place, flight-place, receiving-place, last-place}
+
+-- what an open channel's region holds
+abbrev pub readyOf : List ℕ → OpenIso
+readyOf r = readyPart .get (drop 1 r)
+
+module _ (r : List ℕ) (f : IsoOpened r) where
+  pub is-ready : isoRegion .get r ≡ ready (readyOf r)
+  unfolding isoRegion via slot
+  is-ready = ap (λ (k : ℕ). isoChanBack (getSlot readyPart k (drop 1 r))) (f .mark)
+
+  pub kept : isoRegion .put (ready (readyOf r)) ≡ r
+  kept = ap (isoRegion .put) (sym is-ready) ∙ isoRegion-lawful .put-get r (f .long ∙ sym isoRegion-size) (f .valid)
+
+  pub fine : FineIso (ready (readyOf r))
+  fine = subst FineIso is-ready (isoRegion-lawful .ok-get r (f .long ∙ sym isoRegion-size) (f .valid))
+
+  pub good : GoodIso (readyOf r)
+  good = iso-good (readyOf r) fine
+
+  -- a call that moves the channel: the answer is the judge's, the bytes are those of what it moved to
+  pub moves : (rates : List ℕ) (now : ℕ) (x : Call) (c : Iso) (code v : ℕ) (b ys : List ℕ) → onReady rates now (readyOf r) x ≡ (c, says code v b) → ys ≡ isoRegion .put c
+      → gives code v b ys ≡ isoOutcome rates now r x
+  unfolding isoOutcome isoGives onIsoCall says
+  moves rates now x c code v b ys s y =
+      ap (λ (z : List ℕ). gives code v b z) y ∙ sym (ap (λ (k : Iso). isoGives (onIsoCall rates now k x)) is-ready ∙ ap isoGives s)
+
+  -- a call that leaves it
+  pub stays : (rates : List ℕ) (now : ℕ) (x : Call) (code v : ℕ) (b : List ℕ) → onReady rates now (readyOf r) x ≡ (ready (readyOf r), says code v b) → gives code v b r ≡ isoOutcome rates now r x
+  stays rates now x code v b s = moves rates now x (ready (readyOf r)) code v b r s (sym kept)
+
+  -- ---- its parts
+
+  abbrev pub o : OpenIso
+  o = readyOf r
+
+  abbrev pub flags : ℕ
+  flags = fli o
+
+  pub config-part : Part isoRegion r config flagsAt configSize (o .config) (λ c. ready (setConfig o c))
+  config-part = part r kept configSize config-size (iso-config-place o) config-lawful (good .config-ok)
+
+  pub talks-part : Part isoRegion r (talksCode flags) talksAt talksSize (o .talks) (λ ts. ready (setTalks o ts))
+  talks-part = part r kept talksSize (talks-size flags) (talks-place o (good .config-ok)) (talks-lawful flags) (good-talks o good)
+
+  -- conversation k
+  pub talk-part : (k : ℕ) → k < mostTalks → Part isoRegion r (slot (talkCell flags)) (talksAt + k * talkSize) talkSize (getD (o .talks) k none) (λ x. ready (setTalks o (set (o .talks) k x)))
+  unfolding talksCode
+  talk-part k h =
+      part r kept talkSize (slot-size flags) (talk-place o (good .config-ok) (good-talks o good) k h) (slot-lawful (talk-lawful flags))
+      (all-at (slot (talkCell flags) .ok) (o .talks) k none (unfold slot in tt) (many-each mostTalks (slot (talkCell flags)) (o .talks) (good-talks o good)))
+
+  pub messages-part : Part isoRegion r (upTo mostMessages (messageCell flags)) messagesAt messagesSize (o .written) (λ ws. ready (setWritten o ws))
+  messages-part = part r kept messagesSize (messages-size flags) (messages-place o (good .config-ok) (good-talks o good)) (upTo-lawful (message-lawful flags) mostMessages) (good .written-ok)
+
+  pub flight-part : Part isoRegion r (slot (flightCode flags)) isoFlightAt isoFlightSize (o .flight) (λ x. ready (setFlight o x))
+  flight-part =
+      part r kept isoFlightSize (isoFlight-size flags) (flight-place o (good .config-ok) (good-talks o good) (good .written-ok)) (slot-lawful (flight-lawful flags)) (good .flight-ok)
+
+  pub receiving-part : Part isoRegion r (heardPart flags) heardAt (heardSize + 1) (o .receiving) (λ x. ready (setReceiving o x))
+  receiving-part =
+      part r kept (heardSize + 1) (heardPart-size flags) (receiving-place o (good .config-ok) (good-talks o good) (good .written-ok) (good .flight-ok)) (heardPart-lawful flags) (good-heard o good)
+
+  pub last-part : Part isoRegion r isoLastPart isoLastAt 1 (o .last) (λ k. ready (setLast o k))
+  last-part =
+      part r kept 1 isoLast-size (last-place o (good .config-ok) (good-talks o good) (good .written-ok) (good .flight-ok) (good-heard o good)) last-lawful (good .last-ok)
+
+-- ---- the region after a move is that of an open channel again
+
+module _ (o : OpenIso) (t : FineIso (ready o)) where
+  pub opened-again : IsoOpened (isoRegion .put (ready o))
+  unfolding isoRegion via slot
+  opened-again = record { long = isoRegion-lawful .long (ready o) t ∙ isoRegion-size; valid = isoRegion-lawful .valid-put (ready o) t; mark = refl }
+
+  pub ready-again : readyOf (isoRegion .put (ready o)) ≡ o
+  ready-again = let e : ready (readyOf (isoRegion .put (ready o))) ≡ ready o = sym (is-ready (isoRegion .put (ready o)) opened-again) ∙ isoRegion-lawful .get-put (ready o) t in cc e

@@ -1,0 +1,4 @@
+pub mod Sizes
+pub mod Record
+pub mod Region
+pub mod Promise
