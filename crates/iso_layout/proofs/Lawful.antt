@@ -217,11 +217,12 @@ pub isoRest-same : (j k : ℕ) → isoRest j .size ≡ isoRest k .size
 unfolding isoRest heardPart talksCode flightCode talkCell messageCell frameCell heardCell both many slot upTo via such
 isoRest-same j k = refl
 
+pub parts-lawful : Lawful (bothOn (λ c. c .flags) config isoRest)
+parts-lawful = bothOn-lawful (λ c. c .flags) config-lawful isoRest-lawful (λ k. isoRest-same k 0)
+
 pub ready-lawful : Lawful readyPart
 unfolding readyPart
-ready-lawful =
-    such-lawful linked
-    (via-lawful readyParts readyBack (λ o t. refl) (λ p t. refl) (bothOn-lawful (λ c. c .flags) config-lawful isoRest-lawful (λ k. isoRest-same k 0)))
+ready-lawful = such-lawful linked (via-lawful readyParts readyBack (λ o t. refl) (λ p t. refl) parts-lawful)
 
 iso-chan-back : (c : Iso) → isoChanBack (isoChanParts c) ≡ c
 iso-chan-back shut = refl

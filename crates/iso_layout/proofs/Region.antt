@@ -1,31 +1,29 @@
 -- The region of an open ISO 15765 channel: how a call that leaves it or moves it meets its promise, and its parts, each lent as a slice. Assumes
 -- nothing.
 use mathlib.Core.Path.{_≡_, refl, sym, ap, _∙_, subst}
-use Prim.Native.Nat.{ℕ, _+_, _*_, _<_}
-use mathlib.Core.Bool.{Bool}
-use mathlib.Core.Option.{Option, none}
+use Prim.Native.Nat.{ℕ, suc, _+_, _*_, _<_}
+use mathlib.Core.Option.{none}
 use mathlib.Core.List.{List}
-use lib.ListN.{getD, set, drop}
+use lib.ListN.{length, getD, set, drop}
 use lib.Dec.{T}
-use Rattle.codec.specs.Code.{Code, byte, word32, via, such, mark, slot, getSlot, upTo}
-use Rattle.codec.proofs.Lawful.{Lawful, word-lawful, mark-lawful, mark-ok}
+use Rattle.codec.specs.Code.{via, such, slot, getSlot, upTo, both, bothOn}
+use Rattle.codec.proofs.Tests.{join}
 use Rattle.codec.proofs.Lists.{all-at}
 use Rattle.codec.proofs.Many.{many-each, slot-lawful, upTo-lawful}
-use Rattle.codec.proofs.Place.{Place, inside}
 use Rattle.codec.proofs.Part.{Part, part}
 use Rattle.machine.specs.Channel.{Call, says}
 use Rattle.layout.specs.Memory.{config}
-use Rattle.layout.specs.Sizes.{numberSize, configSize, flagsAt, rateAt, loopbackAt}
+use Rattle.layout.specs.Sizes.{configSize, flagsAt}
 use Rattle.layout.specs.Promise.{gives}
 use Rattle.layout.proofs.Memory.{config-lawful}
 use Rattle.layout.proofs.Sizes.{config-size}
 use Rattle.iso.specs.Limits.{mostTalks, mostMessages}
-use Rattle.iso.specs.Iso.{Talk, OpenIso, Iso, shut, ready, setTalks, setConfig, setWritten, setFlight, setReceiving, setLast, onReady, onIsoCall}
+use Rattle.iso.specs.Iso.{OpenIso, Iso, ready, setTalks, setConfig, setWritten, setFlight, setReceiving, setLast, onReady, onIsoCall}
 use Rattle.iso_layout.specs.Sizes.{talkSize, talksSize, messagesSize, isoFlightSize, heardSize, talksAt, messagesAt, isoFlightAt, heardAt, isoLastAt, isoRegionSize}
-use Rattle.iso_layout.specs.Region.{messageCell, talkCell, talksCode, flightCode, heardPart, isoLastPart, readyPart, isoChanBack, isoRegion}
+use Rattle.iso_layout.specs.Region.{messageCell, talkCell, talksCode, flightCode, heardPart, isoLastPart, readyParts, isoRest, readyPart, isoChanBack, isoRegion}
 use Rattle.iso_layout.specs.Promise.{IsoOpened, isoGives, isoOutcome}
-use Rattle.iso_layout.proofs.Sizes.{slot-size, talks-size, messages-size, isoFlight-size, heardPart-size, isoLast-size, isoRegion-size}
-use Rattle.iso_layout.proofs.Lawful.{talk-lawful, talks-lawful, message-lawful, flight-lawful, heardPart-lawful, last-lawful, isoRegion-lawful}
+use Rattle.iso_layout.proofs.Sizes.{slot-size, talks-size, messages-size, isoFlight-size, heardPart-size, isoLast-size, parts-size, isoRegion-size}
+use Rattle.iso_layout.proofs.Lawful.{talk-lawful, talks-lawful, message-lawful, flight-lawful, heardPart-lawful, last-lawful, parts-lawful, isoRegion-lawful}
 use Rattle.iso_layout.proofs.Good.{FineIso, fli, GoodIso, iso-good, good-talks, good-heard}
 use Rattle.iso_layout.proofs.Places.{iso-config-place, talks-place, talk-place, messages-place, flight-place, receiving-place, last-place}
 
@@ -58,41 +56,70 @@ module _ (r : List ℕ) (f : IsoOpened r) where
   pub stays : (rates : List ℕ) (now : ℕ) (x : Call) (code v : ℕ) (b : List ℕ) → onReady rates now (readyOf r) x ≡ (ready (readyOf r), says code v b) → gives code v b r ≡ isoOutcome rates now r x
   stays rates now x code v b s = moves rates now x (ready (readyOf r)) code v b r s (sym kept)
 
-  -- ---- its parts
+-- ---- the bytes of a channel whose parts each can be held, however they hang together
 
-  abbrev pub o : OpenIso
-  o = readyOf r
+pub record Lies (o : OpenIso) (r : List ℕ) : Type 0 where
+  pub bytes : isoRegion .put (ready o) ≡ r
+  pub config-ok : T (config .ok (o .config))
+  pub talks-ok : T (talksCode (fli o) .ok (o .talks))
+  pub written-ok : T (upTo mostMessages (messageCell (fli o)) .ok (o .written))
+  pub flight-ok : T (slot (flightCode (fli o)) .ok (o .flight))
+  pub heard-ok : T (heardPart (fli o) .ok (o .receiving))
+  pub last-ok : T (isoLastPart .ok (o .last))
 
-  abbrev pub flags : ℕ
+-- an open channel's region is such
+pub lies : (r : List ℕ) → IsoOpened r → Lies (readyOf r) r
+lies r f =
+    let g : GoodIso (readyOf r) = good r f in
+    record {
+      bytes = kept r f;
+      config-ok = g .config-ok;
+      talks-ok = good-talks (readyOf r) g;
+      written-ok = g .written-ok;
+      flight-ok = g .flight-ok;
+      heard-ok = good-heard (readyOf r) g;
+      last-ok = g .last-ok;
+    }
+
+-- its parts, each lent as a slice
+module _ (o : OpenIso) (r : List ℕ) (l : Lies o r) where
+  abbrev flags : ℕ
   flags = fli o
 
   pub config-part : Part isoRegion r config flagsAt configSize (o .config) (λ c. ready (setConfig o c))
-  config-part = part r kept configSize config-size (iso-config-place o) config-lawful (good .config-ok)
+  config-part = part r (l .bytes) configSize config-size (iso-config-place o) config-lawful (l .config-ok)
 
   pub talks-part : Part isoRegion r (talksCode flags) talksAt talksSize (o .talks) (λ ts. ready (setTalks o ts))
-  talks-part = part r kept talksSize (talks-size flags) (talks-place o (good .config-ok)) (talks-lawful flags) (good-talks o good)
+  talks-part = part r (l .bytes) talksSize (talks-size flags) (talks-place o (l .config-ok)) (talks-lawful flags) (l .talks-ok)
 
   -- conversation k
   pub talk-part : (k : ℕ) → k < mostTalks → Part isoRegion r (slot (talkCell flags)) (talksAt + k * talkSize) talkSize (getD (o .talks) k none) (λ x. ready (setTalks o (set (o .talks) k x)))
   unfolding talksCode
   talk-part k h =
-      part r kept talkSize (slot-size flags) (talk-place o (good .config-ok) (good-talks o good) k h) (slot-lawful (talk-lawful flags))
-      (all-at (slot (talkCell flags) .ok) (o .talks) k none (unfold slot in tt) (many-each mostTalks (slot (talkCell flags)) (o .talks) (good-talks o good)))
+      part r (l .bytes) talkSize (slot-size flags) (talk-place o (l .config-ok) (l .talks-ok) k h) (slot-lawful (talk-lawful flags))
+      (all-at (slot (talkCell flags) .ok) (o .talks) k none (unfold slot in tt) (many-each mostTalks (slot (talkCell flags)) (o .talks) (l .talks-ok)))
 
   pub messages-part : Part isoRegion r (upTo mostMessages (messageCell flags)) messagesAt messagesSize (o .written) (λ ws. ready (setWritten o ws))
-  messages-part = part r kept messagesSize (messages-size flags) (messages-place o (good .config-ok) (good-talks o good)) (upTo-lawful (message-lawful flags) mostMessages) (good .written-ok)
+  messages-part = part r (l .bytes) messagesSize (messages-size flags) (messages-place o (l .config-ok) (l .talks-ok)) (upTo-lawful (message-lawful flags) mostMessages) (l .written-ok)
 
   pub flight-part : Part isoRegion r (slot (flightCode flags)) isoFlightAt isoFlightSize (o .flight) (λ x. ready (setFlight o x))
   flight-part =
-      part r kept isoFlightSize (isoFlight-size flags) (flight-place o (good .config-ok) (good-talks o good) (good .written-ok)) (slot-lawful (flight-lawful flags)) (good .flight-ok)
+      part r (l .bytes) isoFlightSize (isoFlight-size flags) (flight-place o (l .config-ok) (l .talks-ok) (l .written-ok)) (slot-lawful (flight-lawful flags)) (l .flight-ok)
 
   pub receiving-part : Part isoRegion r (heardPart flags) heardAt (heardSize + 1) (o .receiving) (λ x. ready (setReceiving o x))
   receiving-part =
-      part r kept (heardSize + 1) (heardPart-size flags) (receiving-place o (good .config-ok) (good-talks o good) (good .written-ok) (good .flight-ok)) (heardPart-lawful flags) (good-heard o good)
+      part r (l .bytes) (heardSize + 1) (heardPart-size flags) (receiving-place o (l .config-ok) (l .talks-ok) (l .written-ok) (l .flight-ok)) (heardPart-lawful flags) (l .heard-ok)
 
   pub last-part : Part isoRegion r isoLastPart isoLastAt 1 (o .last) (λ k. ready (setLast o k))
   last-part =
-      part r kept 1 isoLast-size (last-place o (good .config-ok) (good-talks o good) (good .written-ok) (good .flight-ok) (good-heard o good)) last-lawful (good .last-ok)
+      part r (l .bytes) 1 isoLast-size (last-place o (l .config-ok) (l .talks-ok) (l .written-ok) (l .flight-ok) (l .heard-ok)) last-lawful (l .last-ok)
+
+  -- as many bytes as a region has
+  pub lies-long : length r ≡ isoRegionSize
+  unfolding isoRegion readyPart isoRest via slot such both bothOn
+  lies-long =
+      let whole : T (bothOn (λ c. c .flags) config isoRest .ok (readyParts o)) = search (join, l .config-ok, l .talks-ok, l .written-ok, l .flight-ok, l .heard-ok, l .last-ok) depth 9 in
+      ap length (sym (l .bytes)) ∙ ap suc (parts-lawful .long (readyParts o) whole) ∙ parts-size
 
 -- ---- the region after a move is that of an open channel again
 

@@ -1,7 +1,7 @@
 -- The numbers of docs/LAYOUT.md for the region of an ISO 15765 channel, checked: the size of each part by its code, and where each row of its tables
 -- begins. Assumes nothing.
 use mathlib.Core.Path.{_≡_, refl}
-use Prim.Native.Nat.{ℕ, _+_, _*_}
+use Prim.Native.Nat.{ℕ, suc, _+_, _*_}
 use mathlib.Core.List.{List, [], _∷_}
 use Rattle.codec.specs.Code.{byte, word32, both, bothOn, via, such, mark, many, slot, upTo}
 use Rattle.machine.specs.Limits.{rxStatusIn, txFlagsIn, timestampIn, sizeIn, extraIndexIn, dataIn}
@@ -103,6 +103,11 @@ module _ (flags : ℕ) where
 pub isoLast-size : isoLastPart .size ≡ 1
 unfolding isoLastPart such byte
 isoLast-size = refl
+
+-- all that lies behind the open mark
+pub parts-size : suc (bothOn (λ c. c .flags) config isoRest .size) ≡ isoRegionSize
+unfolding isoRest bothOn config heardPart isoLastPart flightCode talksCode talkCell transferCode transferPlain payload508 heardCell frameCell messageCell rec536 mark via such both many slot upTo word32 byte
+parts-size = refl
 
 pub isoRegion-size : isoRegion .size ≡ isoRegionSize
 unfolding isoRegion readyPart isoRest bothOn config heardPart isoLastPart flightCode talksCode talkCell transferCode transferPlain payload508 heardCell frameCell messageCell rec536 mark via such both many slot upTo word32 byte
