@@ -114,7 +114,7 @@ module _ (now : ℕ) (p : List ℕ) (least : leastSegmented ≤ length p) (most 
       ap (λ (x : Heard). (heardAll now (turned d (x .transfer)) (restData (suc k) (n + inNext) p) .0, x .records ++ heardAll now (turned d (x .transfer)) (restData (suc k) (n + inNext) p) .1)) h
       ∙ rest-carried k (n + inNext) goOn (turned d (receivedSoFar p (n + inNext) goOn)) refl (omega arith) (omega arith)
 
-  -- A MESSAGE IS CARRIED: its first frame and its k + 1 consecutive frames, heard by an idle conversation, tell RxStart and then the message
+  -- A MESSAGE IS CARRIED: its first frame and its k + 1 consecutive frames, heard by a conversation that does not transmit, tell RxStart, then it
   pub carried : (d : Talk) → eqb (d .pattern) (d .flow) ≡ false → transmitting (d .transfer) ≡ false → (k : ℕ) → inFirst + inNext * k < length p → length p ≤ inFirst + inNext * suc k
       → heardAll now d (firstData p ∷ restData (suc k) inFirst p) ≡ (turned d idle, rxStart now d ++ arrived now d p)
   unfolding becomes turned arrived
