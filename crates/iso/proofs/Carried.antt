@@ -3,7 +3,8 @@
 use Prim.Native.Nat.{ℕ, zero, suc, _+_, _*_, _-_, _/_, _%_, _≤_, _<_, min}
 use mathlib.Core.Path.{_≡_, refl, sym, ap, ap₂, _∙_, subst}
 use mathlib.Core.Bool.{Bool, true, false, not, _&&_, _||_}
-use mathlib.Core.List.{List, [], _∷_, _++_, append-nil, append-assoc}
+use mathlib.Core.Option.{Option, none, some}
+use mathlib.Core.List.{List, [], _∷_, _++_, map}
 use native.Mathlib.Omega.{arith}
 use borrow.Author.Tests.{ltb-false, eq-eqb, ne-eqb, lt-ltb, le-ltb, le-leb, lt-leb}
 use lib.ListN.{length, getD, take, drop, length-take, length-drop, take-append-drop}
@@ -12,7 +13,7 @@ use lib.Dec.{eqb, leb, ltb}
 use Rattle.codec.specs.Plain.{if_then_else_}
 use Rattle.machine.specs.Message.{idBytes, Rec}
 use Rattle.iso.specs.Limits.{mostPayload, leastSegmented, inFirst, inNext}
-use Rattle.iso.specs.Iso.{Reception, Transfer, idle, receives, Talk, turned, numberAfter, rxStart, arrived, Heard, becomes, low, onFirst, onNext, onConsecutive, transmitting, listening, Transmission, framed, firstFrame, nextFrame}
+use Rattle.iso.specs.Iso.{Reception, Transfer, idle, receives, Talk, turned, numberAfter, rxStart, arrived, Heard, becomes, low, onFirst, onNext, onConsecutive, transmitting, listening, Transmission, framed, firstFrame, nextFrame, transmits, sends, Given, gives, nextOf, segmentOf, staged, sentStage, sentOf, wholeOf, doneOf}
 
 -- the data of a message's frames: the first, and the one after n bytes; k of them
 abbrev pub firstData : List ℕ → List ℕ
@@ -111,8 +112,11 @@ module _ (now : ℕ) (p : List ℕ) (least : leastSegmented ≤ length p) (most 
   rest-carried (suc k) n goOn d e low high =
       let more : ltb inNext (length p - n) ≡ true = lt-ltb inNext (length p - n) (omega arith) in
       let h : listening now d (nextData n p) ≡ becomes (receivedSoFar p (n + inNext) goOn) [] = next-carried d n goOn e (omega arith) ∙ rw more in
-      ap (λ (x : Heard). (heardAll now (turned d (x .transfer)) (restData (suc k) (n + inNext) p) .0, x .records ++ heardAll now (turned d (x .transfer)) (restData (suc k) (n + inNext) p) .1)) h
-      ∙ rest-carried k (n + inNext) goOn (turned d (receivedSoFar p (n + inNext) goOn)) refl (omega arith) (omega arith)
+      let rest : Transfer → Talk × List Rec = λ x. heardAll now (turned d x) (restData (suc k) (n + inNext) p) in
+      let one : heardAll now d (restData (suc (suc k)) n p) ≡ rest (receivedSoFar p (n + inNext) goOn) =
+          ap (λ (x : Heard). (rest (x .transfer) .0, x .records ++ rest (x .transfer) .1)) h
+      in
+      one ∙ rest-carried k (n + inNext) goOn (turned d (receivedSoFar p (n + inNext) goOn)) refl (omega arith) (omega arith)
 
   -- A MESSAGE IS CARRIED: its first frame and its k + 1 consecutive frames, heard by a conversation that does not transmit, tell RxStart, then it
   pub carried : (d : Talk) → eqb (d .pattern) (d .flow) ≡ false → transmitting (d .transfer) ≡ false → (k : ℕ) → inFirst + inNext * k < length p → length p ≤ inFirst + inNext * suc k
@@ -122,6 +126,41 @@ module _ (now : ℕ) (p : List ℕ) (least : leastSegmented ≤ length p) (most 
       let rest : Transfer → Talk × List Rec = λ x. heardAll now (turned d x) (restData (suc k) inFirst p) in
       ap (λ (x : Heard). (rest (x .transfer) .0, x .records ++ rest (x .transfer) .1)) (first-carried d apart quiet)
       ∙ ap (λ (x : Talk × List Rec). (x .0, rxStart now d ++ x .1)) (rest-carried k inFirst true (turned d (receivedSoFar p inFirst true)) refl low high)
+
+-- ---- the sending side
+
+-- the frames of takes that are each followed by a sent; the transfer that is left, and the messages that are whole
+pub record Sent : Type 0 where
+  pub frames : List Rec
+  pub rest : Transfer
+  pub messages : List Rec
+
+abbrev afterTake : (Transfer → Sent) → Talk → Transfer → Option Given → Sent
+afterTake more c x none = record { frames = []; rest = x; messages = [] }
+afterTake more c x (some g) =
+    let m : Sent = more (sentOf (g .transfer)) in
+    record { frames = g .frame ∷ m .frames; rest = m .rest; messages = doneOf c (g .transfer) ++ m .messages }
+
+-- n of them, of the conversation at a place
+abbrev pub sentAll : ℕ → ℕ → Talk → Transfer → Sent
+sentAll zero place c x = record { frames = []; rest = x; messages = [] }
+sentAll (suc n) place c x = afterTake (sentAll n place c) c x (segmentOf place c x)
+
+-- a transmission of p of which n bytes were taken, after a go-on without block size and STmin
+abbrev pub takenSoFar : List ℕ → ℕ → Transfer
+takenSoFar p n = transmits (record { payload = p; taken = n; stage = sends 0 0 0 })
+
+-- A MESSAGE IS SENT: its consecutive frames in order, whatever its length; the message is whole at the sent of the last, and not before
+pub all-sent : (p : List ℕ) (place : ℕ) (c : Talk) (k n : ℕ) → n + inNext * k < length p → length p ≤ n + inNext * suc k
+    → sentAll (suc k) place c (takenSoFar p n)
+    ≡ record { frames = map (framed (c .wide) (c .flow)) (restData (suc k) n p); rest = idle; messages = framed (c .wide) (c .flow) p ∷ [] }
+unfolding segmentOf nextOf gives nextFrame sentOf sentStage staged doneOf wholeOf
+all-sent p place c zero n low high = rw (le-leb (length p) (n + inNext) (omega arith)) refl
+all-sent p place c (suc k) n low high =
+    let more : leb (length p) (n + inNext) ≡ false = lt-leb (length p) (n + inNext) (omega arith) in
+    rw more
+    (ap (λ (s : Sent). record { frames = framed (c .wide) (c .flow) (nextData n p) ∷ s .frames; rest = s .rest; messages = s .messages })
+    (all-sent p place c k (n + inNext) (omega arith) (omega arith)))
 
 -- those are the data that a transmission's frames carry behind its flow identifier
 pub first-is : (c : Talk) (p : List ℕ) → firstFrame c p .bytes ≡ idBytes (c .flow) ++ firstData p
