@@ -114,7 +114,7 @@ module _ (now : ℕ) (p : List ℕ) (least : leastSegmented ≤ length p) (most 
       let h : listening now d (nextData n p) ≡ becomes (receivedSoFar p (n + inNext) goOn) [] = next-carried d n goOn e (omega arith) ∙ rw more in
       let rest : Transfer → Talk × List Rec = λ x. heardAll now (turned d x) (restData (suc k) (n + inNext) p) in
       let one : heardAll now d (restData (suc (suc k)) n p) ≡ rest (receivedSoFar p (n + inNext) goOn) =
-          ap (λ (x : Heard). (rest (x .transfer) .0, x .records ++ rest (x .transfer) .1)) h
+      ap (λ (x : Heard). (rest (x .transfer) .0, x .records ++ rest (x .transfer) .1)) h
       in
       one ∙ rest-carried k (n + inNext) goOn (turned d (receivedSoFar p (n + inNext) goOn)) refl (omega arith) (omega arith)
 
