@@ -1,0 +1,4 @@
+pub mod Carried
+pub mod Fair
+pub mod Counts
+pub mod Traces
