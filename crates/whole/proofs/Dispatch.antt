@@ -193,6 +193,10 @@ number-place i h =
     let back : i + 1 - 1 ≡ i = omega arith in
     rw (between 1 8 (i + 1) (omega arith) (omega arith)) (ap {B = Option ℕ} some back)
 
+pub call-heard : (k : ℕ) (x : Call) → within 1 8 k ≡ true → speaker (call k x) ≡ some (k - 1)
+unfolding speaker numbered
+call-heard k x h = rw h
+
 -- ---- places that move
 
 module _ {C : Type 0} (t : ℕ → Bool) (f : C → C) where

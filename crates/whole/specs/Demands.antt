@@ -9,6 +9,7 @@ use lib.ListN.{length, set}
 use lib.Dec.{T, eqb, ltb}
 use Rattle.codec.specs.Plain.{if_then_else_}
 use Rattle.machine.specs.Limits.{lines}
+use Rattle.machine.specs.Codes.{stepCodes}
 use Rattle.machine.specs.Channel.{Call, getParameter, setParameter, getList, setList, Pairs, flat, Answer, notes, says}
 use Rattle.machine.specs.Device.{Event, connect, call, frame, advance, close}
 unfoldable pub use Rattle.machine.specs.Demands.{results, pairCodes, didPart, partDone, refusal}
@@ -21,6 +22,14 @@ pub record EightChannels (d : Device) : Type 0 where
   pub isos : length (d .isos) ≡ lines
 
 -- ---- demand 1: refusals
+
+-- every code that an event can be answered with: the scope's, and the two that join its table
+unfoldable pub boxCodes : List ℕ
+boxCodes = stepCodes ++ 0x17 ∷ 0x18 ∷ []
+
+-- every code of the table: its last is for a memory that is not valid, and no state of the box is such a memory
+unfoldable pub boxTable : List ℕ
+boxTable = boxCodes ++ 0x1A ∷ []
 
 -- A LIST THAT A PAIR ENDED: in front of that pair stand accepted ones. A set leaves and answers what those alone do, and then the set of the refused
 -- pair alone
