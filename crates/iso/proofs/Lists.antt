@@ -1,12 +1,12 @@
 -- Lists of parameters on an open ISO 15765 channel, for any set of rates: a list of at most 16 is its single calls in a row, up to the first refused
 -- one; a longer one is 0x04. Assumes nothing.
 use mathlib.Core.Path.{_≡_, refl, sym, ap, _∙_}
-use Prim.Native.Nat.{ℕ, zero, suc, _≤_, _<_}
+use Prim.Native.Nat.{ℕ, _≤_, _<_}
 use native.Mathlib.Omega.{arith}
 use mathlib.Core.List.{List, [], _∷_}
 use lib.ListN.{length}
 use Rattle.machine.specs.Limits.{mostPairs}
-use Rattle.machine.specs.Channel.{Config, Pairs, flat, Call, getParameter, setParameter, getList, setList, says, getIn, setIn, setAll, getAll, listCode}
+use Rattle.machine.specs.Channel.{Config, Pairs, flat, Call, getParameter, setParameter, getList, setList, says, getIn, setIn, setAll, getAll}
 use Rattle.machine.proofs.Parameters.{few-code, many-code, set-more, set-no-more, get-more, get-no-more}
 use Rattle.iso.specs.Iso.{OpenIso, ready, IsoOutcome, setConfig, unlessIso, onIsoGet, isoSetTo, onIsoSet, onIsoGetList, onIsoSetList, onReady, onIsoCall, isoNotes, isoNoted}
 
