@@ -1,19 +1,19 @@
 -- What a transmission gives, a conversation hears: the frames of a message of 8 to 508 bytes, one after the other, give the partner that message back.
 -- Assumes nothing.
 use Prim.Native.Nat.{ℕ, zero, suc, _+_, _*_, _-_, _/_, _%_, _≤_, _<_, min}
-use mathlib.Core.Path.{_≡_, refl, sym, ap, ap₂, _∙_, subst}
-use mathlib.Core.Bool.{Bool, true, false, not, _&&_, _||_}
+use mathlib.Core.Path.{_≡_, refl, sym, ap, _∙_}
+use mathlib.Core.Bool.{Bool, true, false}
 use mathlib.Core.Option.{Option, none, some}
 use mathlib.Core.List.{List, [], _∷_, _++_, map}
 use native.Mathlib.Omega.{arith}
 use borrow.Author.Tests.{ltb-false, eq-eqb, ne-eqb, lt-ltb, le-ltb, le-leb, lt-leb}
-use lib.ListN.{length, getD, take, drop, length-take, length-drop, take-append-drop}
+use lib.ListN.{length, take, drop, length-take, length-drop, take-append-drop}
 use lib.Seq.{take-add, take-all, take-take, length-take-le}
 use lib.Dec.{eqb, leb, ltb}
 use Rattle.codec.specs.Plain.{if_then_else_}
 use Rattle.machine.specs.Message.{idBytes, Rec}
 use Rattle.iso.specs.Limits.{mostPayload, leastSegmented, inFirst, inNext}
-use Rattle.iso.specs.Iso.{Reception, Transfer, idle, receives, Talk, turned, numberAfter, rxStart, arrived, Heard, becomes, low, onFirst, onNext, onConsecutive, transmitting, listening, Transmission, framed, firstFrame, nextFrame, transmits, sends, Given, gives, nextOf, segmentOf, staged, sentStage, sentOf, wholeOf, doneOf}
+use Rattle.iso.specs.Iso.{Transfer, idle, receives, Talk, turned, numberAfter, rxStart, arrived, Heard, becomes, low, onFirst, onNext, onConsecutive, transmitting, listening, Transmission, framed, firstFrame, nextFrame, transmits, sends, Given, gives, nextOf, segmentOf, staged, sentStage, sentOf, wholeOf, doneOf}
 
 -- the data of a message's frames: the first, and the one after n bytes; k of them
 abbrev pub firstData : List ℕ → List ℕ

@@ -1,14 +1,14 @@
 -- The scope's "What a proof has to close off", on one ISO 15765 channel: the count of a read and of a write is the number of records moved, for
 -- every channel and argument, refusals too. Assumes nothing.
-use Prim.Native.Nat.{ℕ, zero, suc, _+_, _*_, _≤_, min}
+use Prim.Native.Nat.{ℕ, zero, suc, _+_, _≤_, min}
 use mathlib.Core.Path.{_≡_, refl, sym, ap, _∙_}
-use mathlib.Core.List.{List, [], _∷_, _++_, append-nil}
+use mathlib.Core.List.{List, [], _++_, append-nil}
 use native.Mathlib.Omega.{arith}
 use lib.ListN.{length, take, drop, take-append-drop}
 use lib.Seq.{length-take-le}
 use lib.Dec.{eqb}
 use Rattle.machine.specs.Message.{Rec}
-use Rattle.machine.specs.Channel.{write, read, Answer, says, lent}
+use Rattle.machine.specs.Channel.{write, read, says, lent}
 use Rattle.machine.specs.Device.{call}
 use Rattle.machine.proofs.Refusals.{if-case}
 use Rattle.iso.specs.Limits.{isoRecordSize}

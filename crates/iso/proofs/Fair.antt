@@ -3,7 +3,7 @@
 use Prim.Native.Nat.{ℕ, zero, suc, _+_, _*_}
 use mathlib.Core.Path.{_≡_, refl, sym, ap, ap₂, _∙_, subst}
 use mathlib.Core.Logic.{⊎-elim}
-use mathlib.Core.Bool.{Bool, true, false, not, _||_}
+use mathlib.Core.Bool.{Bool, true, false, _||_}
 use mathlib.Core.Option.{Option, none, some}
 use mathlib.Core.List.{List, [], _∷_, _++_, append-nil, append-assoc}
 use native.Mathlib.Omega.{arith}
@@ -11,7 +11,6 @@ use borrow.Author.Tests.{eqb-true, leb-true, le-ltb}
 use lib.ListN.{take, drop}
 use lib.Dec.{T, eqb, leb, ltb}
 use Rattle.codec.specs.Plain.{if_then_else_, member}
-use Rattle.codec.proofs.Tests.{true-T}
 use Rattle.machine.specs.Codes.{stepCodes, codeOf}
 use Rattle.machine.specs.Message.{Rec, clean}
 use Rattle.machine.specs.Filter.{Slots}
@@ -22,7 +21,7 @@ use Rattle.machine.specs.Demands.{results, pairCodes, didPart, partDone, refusa
 use Rattle.machine.proofs.Parameters.{set-case, get-case, set-all-case, get-all-case}
 use Rattle.machine.proofs.Refusals.{if-out, either-in, not-in, codeOf-listed, if-case, Fair, not-refused, settled, kept, one-or, read-nothing, not-above, advance-over}
 use Rattle.iso.specs.Limits.{isoRecordSize}
-use Rattle.iso.specs.Iso.{Iso, shut, ready, OpenIso, Talk, Flight, Chosen, IsoOutcome, setTalks, setConfig, setWritten, setFlight, setReceiving, setLast, withTalks, shownIsoAll, unlessIso, did, talkCode, onStartTalk, onStopTalk, isoMessageCode, isoWriteCode, isoWriting, onIsoWrite, choice, showing, onChosen, isoTaking, onIsoTake, isoSending, isoReading, onIsoRead, onIsoClear, onIsoGet, isoSetTo, onIsoSet, onIsoGetList, onIsoSetList, isoConnectCode, freshIso, isReady, onIsoConnect, onReady, onIsoCall, onIsoFrame, onIsoAdvance, isoCodes, isoNotes, isoNoted, isoNotedInUse}
+use Rattle.iso.specs.Iso.{Iso, shut, ready, OpenIso, Talk, Flight, Chosen, IsoOutcome, setConfig, setWritten, setReceiving, shownIsoAll, unlessIso, did, talkCode, onStartTalk, onStopTalk, isoMessageCode, isoWriteCode, isoWriting, onIsoWrite, choice, showing, onChosen, isoTaking, onIsoTake, isoSending, isoReading, onIsoRead, onIsoClear, onIsoGet, isoSetTo, onIsoSet, onIsoGetList, onIsoSetList, isoConnectCode, isReady, onIsoConnect, onReady, onIsoCall, onIsoFrame, onIsoAdvance, isoCodes, isoNotes, isoNoted, isoNotedInUse}
 use Rattle.iso.specs.Step.{Alone, isoStep, isoAnswer}
 use Rattle.iso.specs.Demands.{isoRemembers, reaches, storedIso}
 
