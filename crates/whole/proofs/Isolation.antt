@@ -1,5 +1,5 @@
 -- DEMAND 3 over the machine of `specs/`, for any set of rates. The proofs unfold the dispatcher and no more: what a channel does with an event is
--- nowhere looked into. Assumes nothing.
+-- nowhere looked into. From power-on, with no premise on the device: FromPowerOn. Assumes nothing.
 use Prim.Native.Nat.{ℕ, _+_, _<_}
 use mathlib.Core.Path.{_≡_, refl, sym, ap, ap₂, _∙_, subst}
 use mathlib.Core.Logic.{_≢_, _⊎_, inl, inr, ⊎-elim}
@@ -14,7 +14,7 @@ use lib.Dec.{T, eqb, eqb→eq, lit<}
 use Rattle.codec.specs.Plain.{if_then_else_}
 use Rattle.machine.specs.Channel.{Answer}
 use Rattle.machine.specs.Device.{Event, connect, clockAfter}
-use Rattle.whole.specs.Device.{Device, Any, powerOn, anyAt, touches, speaker, anyStep, after, answer, step, run, answers}
+use Rattle.whole.specs.Device.{Device, Any, anyAt, touches, speaker, anyStep, after, answer, step, run, answers}
 use Rattle.whole.specs.Demands.{EightChannels, concerns, strike, answersOf, Alike, Projected, Apart, Exchanged, SameToEach, Arranged, Ignored, Names, byCall, byRaw, byIso}
 use Rattle.whole.proofs.Dispatch.{touches-concerned, speaker-only, speaker-eight, raw-only, iso-only, clock-stays, same-places, channels-kept, chan-after, chan-stays, none-move, answer-spoken, answer-own, run-channels-kept}
 
@@ -104,11 +104,6 @@ module _ (rates : List ℕ) where
   -- answers and ends with the same state and clock
   pub projection-from : (i : ℕ) → i < 8 → (es : List Event) (d : Device) → EightChannels d → Projected rates i d d es
   projection-from i k es d h = projection i k es d d (record { clock = refl; chan = refl; here = h; there = h })
-
-  -- DEMAND 3, projection, from power-on, for each of the eight channels
-  pub projection-from-power-on : (i : ℕ) → i < 8 → (es : List Event) → Projected rates i powerOn powerOn es
-  unfolding powerOn
-  projection-from-power-on i k es = projection-from i k es powerOn (record { raws = refl; isos = refl })
 
   -- ---- events that concern no channel
 
@@ -209,10 +204,6 @@ module _ (rates : List ℕ) where
 
       chan : (i : ℕ) → i < 8 → anyAt i (run rates d es) ≡ anyAt i (run rates d zs)
       chan i k = part i k es .ends .chan ∙ ap (λ (l : List Event). anyAt i (run rates d l)) (same i k) ∙ sym (part i k zs .ends .chan)
-
-  pub arranged-from-power-on : (es zs : List Event) → SameToEach es zs → Arranged rates powerOn es zs
-  unfolding powerOn
-  arranged-from-power-on es zs same = arranged powerOn es zs (record { raws = refl; isos = refl }) same
 
 -- ---- events that name different channels are apart
 
