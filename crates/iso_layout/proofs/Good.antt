@@ -176,7 +176,7 @@ less-knows gone m t = absurd t
 less-knows (turns x p q) gone t = absurd t
 less-knows (turns x p q) (turns y r s) t = t
 
-not-more : (p q : Bool) → (T q → T p) → T (not p) → T (not q)
+pub not-more : (p q : Bool) → (T q → T p) → T (not p) → T (not q)
 not-more true q f t = absurd t
 not-more false true f t = absurd (f tt)
 not-more false false f t = tt

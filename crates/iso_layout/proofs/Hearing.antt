@@ -122,7 +122,7 @@ pub record HeardOk (flags : ℕ) (c : Talk) (x : Transfer) (rs : List Rec) : Typ
   pub flies-still : T (transmitting x && airborne x) → T (transmitting (c .transfer) && airborne (c .transfer))
   pub records-ok : T (all (heardCell flags .ok) rs)
 
-no-segment : (p : Bool) → T (not (p && false))
+pub no-segment : (p : Bool) → T (not (p && false))
 no-segment true = tt
 no-segment false = tt
 

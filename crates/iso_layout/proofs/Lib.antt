@@ -6,3 +6,4 @@ pub mod Places
 pub mod Region
 pub mod Hearing
 pub mod Taking
+pub mod Calls

@@ -22,10 +22,9 @@ use Rattle.iso.specs.Iso.{Reception, Stage, opens, awaits, flies, sends, Transm
 use Rattle.layout.specs.Record.{widthFits}
 use Rattle.iso_layout.specs.Region.{rec536, isoOutgoing, messageCell, frameCell, heardCell, stepOf7, isGap, segmentsIn, ownerParts, ownedFits, flightCode, transmitsIn, knowsOther, ownerFits, fliesIn, ownedBy, flightFits}
 use Rattle.layout.proofs.Tables.{by-test, neither}
-
 use Rattle.iso_layout.proofs.Held.{Fit, ToSend, sending-make, sending-sound, reading-make, telling-make, ReceptionOk, StageOk, TransmissionOk, TransferOk, TalkOk}
 use Rattle.iso_layout.proofs.Good.{PlaceOk, Linked}
-use Rattle.iso_layout.proofs.Hearing.{by-either, framed-fit, step-more, turned-ok, HeardOk}
+use Rattle.iso_layout.proofs.Hearing.{by-either, no-segment, framed-fit, step-more, turned-ok, HeardOk}
 
 -- ---- frames for the flight
 
@@ -64,10 +63,6 @@ pub record GivenOk (flags k : ℕ) (c : Talk) (free : Type 0) (g : Given) : Type
 abbrev pub MayGive : ℕ → ℕ → Talk → Type 0 → Option Given → Type 0
 MayGive flags k c free none = Unit {0}
 MayGive flags k c free (some g) = GivenOk flags k c free g
-
-no-segment : (p : Bool) → T (not (p && false))
-no-segment true = tt
-no-segment false = tt
 
 module _ (flags : ℕ) (c : Talk) (o : TalkOk flags c) where
   turn-ok : (x : Transfer) → TransferOk x → T (not (eqb (c .pattern) (c .flow) && segmentsIn x)) → TalkOk flags (turned c x)
