@@ -1,5 +1,5 @@
 -- An ISO 15765 channel keeps what its region can hold, whatever reaches it: each call, a connect, a frame, an advance, a close. Assumes nothing.
-use mathlib.Core.Path.{_≡_, refl, sym, ap, _∙_, subst}
+use mathlib.Core.Path.{_≡_, refl, sym, subst}
 use Prim.Native.Nat.{ℕ, zero, suc, _+_, _*_, _-_, _^_, _≤_, _<_, min}
 use native.Mathlib.Omega.{arith}
 use mathlib.Core.Bool.{Bool, true, false, _&&_, _||_, not, Bool·beq}
@@ -7,11 +7,11 @@ use mathlib.Core.Option.{Option, none, some}
 use mathlib.Core.List.{List, [], _∷_, _++_, map}
 use lib.ListN.{length, getD, set, drop, length-drop}
 use lib.Seq.{length-take-le}
-use lib.Dec.{T, eqb, leb, ltb, eqb→eq, ltb→lt, nleb→lt, nltb→le, eqb-refl}
+use lib.Dec.{T, eqb, leb, ltb, eqb→eq, nleb→lt, nltb→le, eqb-refl}
 use Rattle.codec.specs.Plain.{if_then_else_, within, member, all, isByte}
 use Rattle.codec.specs.Code.{Code, byte, both, via, such, slot, upTo}
 use Rattle.codec.proofs.Tests.{left, right, join, or-either, or-left, or-right, within-low, within-high}
-use Rattle.codec.proofs.Lists.{all-drop, all-take, of-member}
+use Rattle.codec.proofs.Lists.{all-drop, of-member}
 use Rattle.codec.proofs.Many.{upTo-make, upTo-more, upTo-drop}
 use Rattle.machine.specs.Codes.{codeOf}
 use Rattle.machine.specs.Limits.{mostBytes, mostAdvance, dataIn}
@@ -20,13 +20,13 @@ use Rattle.machine.specs.Filter.{Slots, free, has, taken, anySlot}
 use Rattle.machine.specs.Channel.{Config, Receiving, Call, disconnect, startFilter, startFlow, stopFilter, startPeriodic, stopPeriodic, write, read, takeNext, sent, clear, getParameter, setParameter, lastError, getList, setList, says, frameCode, isFlags, unlessStopped, listCode}
 use Rattle.machine.specs.Device.{Event, connect, call, frame, advance, close}
 use Rattle.iso.specs.Limits.{mostTalks, mostMessages, mostHeard, isoData, isoRecordSize, leastMessage}
-use Rattle.iso.specs.Iso.{Transfer, idle, Talk, Owner, nobody, message, transferAt, Flight, OpenIso, Iso, shut, ready, IsoOutcome, noTalks, setTalks, setConfig, setWritten, setFlight, setReceiving, setLast, turned, turnedSlot, turnEach, news, shorterIso, unlessIso, did, arriveIso, becomes, heard, transmitting, airborneAt, ownerIn, flightIn, withTalks, onIsoFrame, laterTransfer, onIsoAdvance, knows, talkCode, talkOf, onStartTalk, onStopTalk, isoMessageCode, isoWriteCode, isoWriting, onIsoWrite, Chosen, choice, onChosen, isoTaking, onIsoTake, landedTalks, messagesDone, doneRecords, isoSending, isoReading, onIsoRead, onIsoClear, onIsoGet, isoSetTo, onIsoSet, onIsoGetList, onIsoSetList, isoConnectCode, freshIso, onIsoConnect, onReady, onIsoCall, isoCodes, isoNotes, isoNoted, isoNotedInUse}
+use Rattle.iso.specs.Iso.{Transfer, idle, Talk, Owner, nobody, message, transferAt, Flight, OpenIso, Iso, shut, ready, IsoOutcome, noTalks, setTalks, setConfig, setWritten, setFlight, setReceiving, setLast, turned, turnedSlot, turnEach, news, shorterIso, unlessIso, did, arriveIso, becomes, heard, transmitting, airborneAt, ownerIn, flightIn, withTalks, onIsoFrame, laterTransfer, onIsoAdvance, knows, talkCode, talkOf, onStartTalk, onStopTalk, isoMessageCode, isoWriteCode, isoWriting, onIsoWrite, Chosen, choice, onChosen, isoTaking, onIsoTake, landedTalks, messagesDone, isoSending, isoReading, onIsoRead, onIsoClear, onIsoGet, isoSetTo, onIsoSet, onIsoGetList, onIsoSetList, isoConnectCode, freshIso, onIsoConnect, onReady, onIsoCall, isoCodes, isoNotes, isoNoted, isoNotedInUse}
 use Rattle.iso_layout.specs.Region.{messageCell, frameCell, ownedFits, heardCell, segmentsIn, flightCode, isoLastPart, transmitsIn, knowsOther, ownerFits, fliesIn, flightFits}
 use Rattle.layout.specs.Memory.{config}
 use Rattle.layout.specs.Reach.{CallBytes, Bytes}
 use Rattle.layout.proofs.Tables.{by-test, Failed, Telling, failed, by-code, own-code, yes}
 use Rattle.layout.proofs.Held.{config-make}
-use Rattle.layout.proofs.Calls.{data-bytes, Known, Kept, config-set, config-set-all}
+use Rattle.layout.proofs.Calls.{data-bytes, Known, config-set, config-set-all}
 use Rattle.iso_layout.proofs.Held.{sending-make, TalkOk}
 use Rattle.iso_layout.proofs.Good.{FineIso, fine-shut, fli, PlaceOk, Linked, GoodIso, good-iso, iso-good, Less, gone, turns, not-more, less-linked}
 use Rattle.iso_layout.proofs.Hearing.{no-segment, HeardOk, heard-ok, later-ok, place-turned, place-less, news-ok, arrive-ok}

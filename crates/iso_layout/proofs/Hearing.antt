@@ -1,29 +1,28 @@
 -- A conversation keeps what its place can hold, whatever frame comes and however time passes, and tells only records that the queue can hold.
 -- Assumes nothing.
 use mathlib.Core.Path.{_≡_, refl, sym, ap, _∙_, subst}
-use Prim.Native.Nat.{ℕ, zero, suc, _+_, _*_, _-_, _/_, _%_, _^_, _≤_, _<_, min}
+use Prim.Native.Nat.{ℕ, _+_, _*_, _-_, _/_, _%_, _^_, _≤_, _<_, min}
 use native.Mathlib.Omega.{arith}
 use mathlib.Core.Bool.{Bool, true, false, _&&_, _||_, not, Bool·beq}
 use mathlib.Core.Option.{Option, none, some}
-use mathlib.Core.List.{List, [], _∷_, _++_, map}
+use mathlib.Core.List.{List, [], _∷_, _++_}
 use lib.ListN.{length, getD, take, drop, length-append, length-drop}
 use lib.Seq.{length-take-le}
 use lib.Dec.{T, eqb, leb, ltb, eqb→eq, leb→le, le→leb, ltb→lt, lt→ltb, nleb→lt, nltb→le, eqb-refl}
 use Rattle.codec.specs.Plain.{if_then_else_, within, member, all, isByte}
 use Rattle.codec.specs.Word.{word, wordAt}
 use Rattle.codec.specs.Code.{upTo}
-use Rattle.codec.proofs.Tests.{left, right, join, or-left, or-right, within-low, within-high, T-true}
+use Rattle.codec.proofs.Tests.{left, right, join, or-left, or-right, within-low, within-high}
 use Rattle.codec.proofs.Lists.{all-append, all-take, all-drop, all-at}
 use Rattle.codec.proofs.Many.{upTo-more}
 use Rattle.codec.proofs.Word.{word-back}
 use Rattle.machine.specs.Message.{bit, widthFlag, idBytes, idOf, idLimit, takes, Rec, received}
-use Rattle.machine.specs.Filter.{Slots}
 use Rattle.machine.specs.Channel.{Receiving}
 use Rattle.machine.specs.Limits.{mostBytes}
 use Rattle.iso.specs.Limits.{mostHeard, idSize, isoData, leastMessage, mostPayload, inSingle, leastSegmented, inFirst, inNext, second, longestGap}
-use Rattle.iso.specs.Iso.{Reception, Stage, opens, awaits, flies, sends, Transmission, Transfer, idle, refuses, receives, transmits, Talk, turned, turnedSlot, turnEach, news, numberAfter, gapOf, arriveIso, rxStart, arrived, txDone, Heard, becomes, ended, low, onSingle, onFirst, onNext, staged, onFlow, onConsecutive, onFlowOf, transmitting, listening, heard, airborne, laterStage, laterTransfer}
+use Rattle.iso.specs.Iso.{Reception, Stage, opens, awaits, flies, sends, Transmission, Transfer, idle, refuses, receives, transmits, Talk, turned, turnedSlot, news, numberAfter, gapOf, arriveIso, rxStart, arrived, Heard, becomes, ended, low, onSingle, onFirst, onNext, staged, onFlow, onConsecutive, onFlowOf, transmitting, listening, heard, airborne, laterStage, laterTransfer}
 use Rattle.iso_layout.specs.Region.{heardCell, stepOf7, isGap, segmentsIn}
-use Rattle.layout.proofs.Tables.{by-test, yes, neither}
+use Rattle.layout.proofs.Tables.{by-test, neither}
 use Rattle.iso_layout.proofs.Held.{Fit, reading-make, telling-make, ReceptionOk, StageOk, TransmissionOk, TransferOk, TalkOk, id-small}
 use Rattle.iso_layout.proofs.Good.{PlaceOk, Less, gone, turns}
 

@@ -1,25 +1,24 @@
 -- What the region of an ISO 15765 channel can hold: a record, a transfer, a conversation, a flight, each made of plain facts, and those facts taken out
 -- again. Assumes nothing.
 use mathlib.Core.Path.{_≡_, refl, sym, ap, _∙_, subst}
-use Prim.Native.Nat.{ℕ, zero, suc, _+_, _*_, _-_, _%_, _^_, _≤_, _<_}
+use Prim.Native.Nat.{ℕ, _+_, _-_, _%_, _^_, _≤_, _<_}
 use native.Mathlib.Omega.{arith}
 use mathlib.Core.Bool.{Bool, true, false, _&&_, _||_, not}
-use mathlib.Core.Option.{Option, none, some}
 use mathlib.Core.List.{List, [], _∷_, _++_}
-use lib.ListN.{length, getD, take, drop, length-append, length-replicate}
+use lib.ListN.{length, drop, length-append, length-replicate}
 use lib.Seq.{take-at, drop-at}
 use lib.Dec.{T, eqb, leb, ltb, eqb→eq, eqb-refl, leb→le, le→leb, ltb→lt, lt→ltb}
 use Rattle.codec.specs.Plain.{if_then_else_, within, member, all, isByte, zeros, allZero}
-use Rattle.codec.specs.Code.{Code, byte, word32, both, bothOn, via, such, mark, many, slot, upTo}
-use Rattle.codec.proofs.Tests.{left, right, join, or-left, or-right, within-low, within-high}
+use Rattle.codec.specs.Code.{byte, word32, both, via, such, many}
+use Rattle.codec.proofs.Tests.{left, right, join, within-low, within-high}
 use Rattle.codec.proofs.Lists.{all-append, all-take, all-zeros}
 use Rattle.codec.proofs.Lawful.{mark-ok}
 use Rattle.codec.proofs.Many.{many-make, many-each}
 use Rattle.machine.specs.Message.{bit, takes, idOf, idLimit, widthFlag, Rec}
-use Rattle.iso.specs.Iso.{Reception, Stage, opens, awaits, flies, sends, Transmission, Transfer, idle, refuses, receives, transmits, Talk, Owner, nobody, message, transferAt, Flight, padded}
+use Rattle.iso.specs.Iso.{Reception, Stage, opens, awaits, flies, sends, Transmission, Transfer, idle, refuses, receives, transmits, Talk, padded}
 use Rattle.iso.specs.Limits.{idSize, isoData, leastMessage, mostPayload, leastSegmented, inFirst, inNext, second, longestGap}
 use Rattle.layout.specs.Record.{widthFits}
-use Rattle.iso_layout.specs.Region.{indication, extraIs, isoParts, isoFits, rec536, isoOutgoing, isoIncoming, messageCell, frameCell, heardCell, payloadParts, payloadFits, payload508, transferParts, stepOf7, isGap, kindFits, transferFits, transferPlain, transferCode, segmentsIn, talkParts, talkFits, talkCell, ownerParts, flightParts, ownedFits, flightCode}
+use Rattle.iso_layout.specs.Region.{indication, extraIs, isoParts, isoFits, rec536, isoOutgoing, isoIncoming, heardCell, payloadParts, payloadFits, payload508, stepOf7, isGap, transferFits, transferPlain, transferCode, segmentsIn, talkFits, talkCell}
 use Rattle.codec.proofs.Tests.{eq→eqb}
 use Rattle.codec.proofs.Lists.{of-member, zeros-bytes}
 use Rattle.codec.proofs.Lawful.{word-ok, ok-word}
@@ -71,9 +70,10 @@ rec-bytes : (r : Rec) → T (rec536 .ok r) → T (all isByte (r .bytes))
 unfolding rec536 via such both isoParts padded
 rec-bytes r t = pad-bytes isoData (isoData - length (r .bytes)) (r .bytes) (search (left, right) depth 9)
 
-rec-sizes : (r : Rec) → T (rec536 .ok r) → length (r .bytes) ≤ isoData
+rec-sizes : (r : Rec) → T (rec536 .ok r) → (idSize ≤ length (r .bytes)) × (length (r .bytes) ≤ isoData)
 unfolding rec536 via such isoParts isoFits
-rec-sizes r t = let w : T (within idSize isoData (length (r .bytes))) = search (left, right) depth 9 in within-high idSize isoData (length (r .bytes)) w
+rec-sizes r t =
+    let w : T (within idSize isoData (length (r .bytes))) = search (left, right) depth 9 in (within-low idSize isoData (length (r .bytes)) w, within-high idSize isoData (length (r .bytes)) w)
 
 rec-stamp : (r : Rec) → T (rec536 .ok r) → r .time < 2 ^ 32
 unfolding rec536 via such both isoParts
@@ -168,6 +168,29 @@ telling-make flags now rx b h m f =
         short : (i : Bool) → T i → T (eqb (length b) idSize) → T (if i then eqb (length b) idSize else leb leastMessage (length b))
         short true i q = q
         short false i q = absurd i
+
+-- what one to read is
+pub record ToRead (flags : ℕ) (r : Rec) : Type 0 where
+  pub status : T (member (r .rx) (0 ∷ 1 ∷ 2 ∷ 9 ∷ 0x100 ∷ 0x101 ∷ 0x102 ∷ 0x109 ∷ []))
+  pub no-flags : r .tx ≡ 0
+  pub stamp : r .time < 2 ^ 32
+  pub fit : Fit flags idSize isoData (bit 0x100 (r .rx)) (r .bytes)
+  pub size : T (if indication (r .rx) then eqb (length (r .bytes)) idSize else leb leastMessage (length (r .bytes)))
+
+pub reading-sound : (flags : ℕ) (r : Rec) → T (heardCell flags .ok r) → ToRead flags r
+unfolding heardCell such isoIncoming
+reading-sound flags r t =
+    let plain : T (rec536 .ok r) = search left in
+    let w : T (widthFits flags (bit 0x100 (r .rx)) (r .bytes)) = search (left, right) in
+    let q = width-fits flags (bit 0x100 (r .rx)) (r .bytes) w in
+    let sizes = rec-sizes r plain in
+    record {
+      status = search (left, right);
+      no-flags = eqb→eq (r .tx) 0 (search (left, right));
+      stamp = rec-stamp r plain;
+      fit = record { least = sizes .0; most = sizes .1; bytes = rec-bytes r plain; identifier = q .0; width = q .1 };
+      size = search (left, right);
+    }
 
 -- ---- a payload
 

@@ -7,3 +7,4 @@ pub mod Region
 pub mod Hearing
 pub mod Taking
 pub mod Calls
+pub mod Limits

@@ -1,30 +1,29 @@
 -- Take and sent on an ISO 15765 channel keep what its region can hold. Assumes nothing.
-use mathlib.Core.Path.{_≡_, refl, sym, ap, _∙_, subst}
-use Prim.Native.Nat.{ℕ, zero, suc, _+_, _*_, _-_, _/_, _%_, _^_, _≤_, _<_}
+use mathlib.Core.Path.{_≡_, refl, sym, ap, subst}
+use Prim.Native.Nat.{ℕ, zero, suc, _+_, _-_, _/_, _%_, _^_, _≤_, _<_}
 use native.Mathlib.Omega.{arith}
 use mathlib.Core.Logic.{_⊎_, inl, inr, ⊎-elim}
 use mathlib.Core.Bool.{Bool, true, false, _&&_, _||_, not}
 use mathlib.Core.Option.{Option, none, some}
 use mathlib.Core.List.{List, [], _∷_, _++_}
-use lib.ListN.{length, getD, set, take, drop, length-append, length-drop, length-take}
+use lib.ListN.{length, getD, take, drop, length-append, length-drop, length-take}
 use lib.Seq.{length-take-le}
-use lib.Dec.{T, eqb, leb, ltb, eqb→eq, leb→le, le→leb, ltb→lt, lt→ltb, nleb→lt, nltb→le}
+use lib.Dec.{T, eqb, leb, ltb, eqb→eq, leb→le, le→leb, lt→ltb, nleb→lt}
 use Rattle.codec.specs.Plain.{if_then_else_, within, member, all, isByte}
-use Rattle.codec.specs.Code.{byte, both, via, such, slot, upTo}
-use Rattle.codec.proofs.Tests.{left, right, join, or-left, or-right, or-either, within-low, within-high, eq→eqb}
+use Rattle.codec.specs.Code.{byte, both, via, such, upTo}
+use Rattle.codec.proofs.Tests.{left, right, join, within-low, eq→eqb}
 use Rattle.codec.proofs.Lists.{all-append, all-take, all-drop, Each, of-member}
 use Rattle.codec.proofs.Many.{upTo-each, upTo-drop}
 use Rattle.machine.specs.Message.{bit, widthFlag, idBytes, idOf, idLimit, takes, Rec, received}
 use Rattle.machine.specs.Filter.{Slots, anySlot}
 use Rattle.machine.specs.Limits.{mostData, mostBytes}
 use Rattle.iso.specs.Limits.{mostMessages, idSize, isoData, leastMessage, mostPayload, longestSingle, leastSegmented, inFirst, inNext}
-use Rattle.iso.specs.Iso.{Reception, Stage, opens, awaits, flies, sends, Transmission, Transfer, idle, refuses, receives, transmits, Talk, Owner, nobody, message, transferAt, Flight, turned, turnedSlot, turnAt, newsAt, numberAfter, framed, singleFrame, unSingle, firstFrame, nextFrame, flowFrame, txDone, staged, transmitting, knows, airborne, airborneAt, Given, Chosen, passing, giving, lowest, gives, answerOf, nextOf, segmentOf, carries, startOf, starting, orElse, choice, wholeOf, sentStage, sentOf, doneOf, landedTalks, messagesDone, doneRecords}
-use Rattle.layout.specs.Record.{widthFits}
-use Rattle.iso_layout.specs.Region.{rec536, isoOutgoing, messageCell, frameCell, heardCell, stepOf7, isGap, segmentsIn, ownerParts, ownedFits, flightCode, transmitsIn, knowsOther, ownerFits, fliesIn, ownedBy, flightFits}
+use Rattle.iso.specs.Iso.{Stage, opens, awaits, flies, sends, Transmission, Transfer, idle, refuses, receives, transmits, Talk, Owner, nobody, message, transferAt, Flight, turned, turnedSlot, turnAt, newsAt, numberAfter, framed, singleFrame, unSingle, firstFrame, nextFrame, flowFrame, txDone, staged, transmitting, knows, airborne, airborneAt, Given, Chosen, passing, giving, lowest, gives, answerOf, nextOf, segmentOf, carries, startOf, starting, orElse, choice, wholeOf, sentStage, sentOf, doneOf, landedTalks, messagesDone, doneRecords}
+use Rattle.iso_layout.specs.Region.{rec536, isoOutgoing, messageCell, frameCell, heardCell, stepOf7, segmentsIn, ownerParts, ownedFits, flightCode, transmitsIn, knowsOther, ownerFits, fliesIn, ownedBy, flightFits}
 use Rattle.layout.proofs.Tables.{by-test, neither}
 use Rattle.iso_layout.proofs.Held.{Fit, ToSend, sending-make, sending-sound, reading-make, telling-make, ReceptionOk, StageOk, TransmissionOk, TransferOk, TalkOk}
 use Rattle.iso_layout.proofs.Good.{PlaceOk, Linked}
-use Rattle.iso_layout.proofs.Hearing.{by-either, no-segment, framed-fit, step-more, turned-ok, HeardOk}
+use Rattle.iso_layout.proofs.Hearing.{by-either, no-segment, framed-fit, step-more}
 
 -- ---- frames for the flight
 
