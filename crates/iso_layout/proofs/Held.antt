@@ -18,6 +18,7 @@ use Rattle.machine.specs.Message.{bit, takes, idOf, idLimit, widthFlag, Rec}
 use Rattle.iso.specs.Iso.{Reception, Stage, opens, awaits, flies, sends, Transmission, Transfer, idle, refuses, receives, transmits, Talk, padded}
 use Rattle.iso.specs.Limits.{idSize, isoData, leastMessage, mostPayload, leastSegmented, inFirst, inNext, second, longestGap}
 use Rattle.layout.specs.Record.{widthFits}
+use Rattle.layout.proofs.Tables.{by-test}
 use Rattle.iso_layout.specs.Region.{indication, extraIs, isoParts, isoFits, rec536, isoOutgoing, isoIncoming, heardCell, payloadParts, payloadFits, payload508, stepOf7, isGap, transferFits, transferPlain, transferCode, segmentsIn, talkFits, talkCell}
 use Rattle.codec.proofs.Tests.{eq→eqb}
 use Rattle.codec.proofs.Lists.{of-member, zeros-bytes}
@@ -50,11 +51,7 @@ pub record Fit (flags low high : ℕ) (wide : Bool) (b : List ℕ) : Type 0 wher
 
 extra-small : (rx n : ℕ) → n ≤ isoData → extraIs rx n < 2 ^ 32
 unfolding extraIs
-extra-small rx n h = go (indication rx)
-  where
-    go : (b : Bool) → (if b then 0 else n) < 2 ^ 32
-    go true = omega arith
-    go false = omega arith
+extra-small rx n h = by-test (λ (k : ℕ). k < 2 ^ 32) (indication rx) _ n (λ t. omega arith) (omega arith)
 
 rec-make : (rx tx time : ℕ) (b : List ℕ) → rx < 2 ^ 32 → tx < 2 ^ 32 → time < 2 ^ 32 → idSize ≤ length b → length b ≤ isoData → T (all isByte b)
     → T (rec536 .ok (record { rx = rx; tx = tx; time = time; bytes = b }))

@@ -17,7 +17,7 @@ use Rattle.codec.proofs.Many.{upTo-each, upTo-drop}
 use Rattle.machine.specs.Message.{bit, widthFlag, idBytes, idOf, idLimit, takes, Rec, received}
 use Rattle.machine.specs.Filter.{Slots, anySlot}
 use Rattle.machine.specs.Limits.{mostData, mostBytes}
-use Rattle.iso.specs.Limits.{mostMessages, idSize, isoData, leastMessage, mostPayload, longestSingle, leastSegmented, inFirst, inNext}
+use Rattle.iso.specs.Limits.{mostTalks, mostMessages, idSize, isoData, leastMessage, mostPayload, longestSingle, leastSegmented, inFirst, inNext}
 use Rattle.iso.specs.Iso.{Stage, opens, awaits, flies, sends, Transmission, Transfer, idle, refuses, receives, transmits, Talk, Owner, nobody, message, transferAt, Flight, turned, turnedSlot, turnAt, newsAt, numberAfter, framed, singleFrame, unSingle, firstFrame, nextFrame, flowFrame, txDone, staged, transmitting, knows, airborne, airborneAt, Given, Chosen, passing, giving, lowest, gives, answerOf, nextOf, segmentOf, carries, startOf, starting, orElse, choice, wholeOf, sentStage, sentOf, doneOf, landedTalks, messagesDone, doneRecords}
 use Rattle.iso_layout.specs.Region.{rec536, isoOutgoing, messageCell, frameCell, heardCell, stepOf7, segmentsIn, ownerParts, ownedFits, flightCode, transmitsIn, knowsOther, ownerFits, fliesIn, ownedBy, flightFits}
 use Rattle.layout.proofs.Tables.{by-test, neither}
@@ -27,7 +27,7 @@ use Rattle.iso_layout.proofs.Hearing.{by-either, no-segment, framed-fit
 
 -- ---- frames for the flight
 
-pub flight-make : (flags : ℕ) (r : Rec) (w : Owner) → T (frameCell flags .ok r) → T (ownedFits (ownerParts w, r)) → ownerParts w ≤ 3 → T (flightCode flags .ok (record { frame = r; owner = w }))
+pub flight-make : (flags : ℕ) (r : Rec) (w : Owner) → T (frameCell flags .ok r) → T (ownedFits (ownerParts w, r)) → ownerParts w ≤ suc mostTalks → T (flightCode flags .ok (record { frame = r; owner = w }))
 unfolding flightCode via such both byte
 flight-make flags r w t f h = let k : T (ltb (ownerParts w) 256) = lt→ltb (ownerParts w) 256 (omega arith) in search join
 
@@ -537,7 +537,7 @@ place-done flags (some c) o = doneOf-ok flags c o (c .transfer) refl
 -- what a flight that can be held is
 pub record FlightOk (flags : ℕ) (f : Flight) : Type 0 where
   pub sendable : ToSend flags mostData (f .frame)
-  pub few : ownerParts (f .owner) ≤ 3
+  pub few : ownerParts (f .owner) ≤ suc mostTalks
   pub single : ownerParts (f .owner) ≡ 1 → suc leastMessage ≤ length (f .frame .bytes)
 
 pub flight-sound : (flags : ℕ) (f : Flight) → T (flightCode flags .ok f) → FlightOk flags f
@@ -548,10 +548,10 @@ flight-sound flags f t =
     let b : List ℕ = f .frame .bytes in
     record {
       sendable = sending-sound flags mostData (f .frame) cell;
-      few = leb→le (ownerParts (f .owner)) 3 (left (leb (ownerParts (f .owner)) 3) _ fits);
+      few = leb→le (ownerParts (f .owner)) (suc mostTalks) (left (leb (ownerParts (f .owner)) (suc mostTalks)) _ fits);
       single =
           λ e.
-          let or : T (not (eqb (ownerParts (f .owner)) 1) || within (suc leastMessage) mostData (length b) && eqb (getD b idSize 0) (length b - suc idSize)) = right (leb (ownerParts (f .owner)) 3) _ fits in
+          let or : T (not (eqb (ownerParts (f .owner)) 1) || within (suc leastMessage) mostData (length b) && eqb (getD b idSize 0) (length b - suc idSize)) = right (leb (ownerParts (f .owner)) (suc mostTalks)) _ fits in
           let r = subst (λ (n : ℕ). T (not (eqb n 1) || within (suc leastMessage) mostData (length b) && eqb (getD b idSize 0) (length b - suc idSize))) e or in
           within-low (suc leastMessage) mostData (length b) (left (within (suc leastMessage) mostData (length b)) (eqb (getD b idSize 0) (length b - suc idSize)) r);
     }
