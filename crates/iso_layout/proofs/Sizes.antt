@@ -10,7 +10,7 @@ use Rattle.machine.specs.Limits.{rxStatusIn, txFlagsIn, timestampIn, sizeIn, ex
 use Rattle.layout.specs.Memory.{config}
 use Rattle.layout.specs.Sizes.{numberSize, flagsAt, rateAt, loopbackAt}
 use Rattle.layout.proofs.Sizes.{rows}
-use Rattle.iso.specs.Limits.{mostMessages, mostHeard, isoData, isoRecordSize}
+use Rattle.iso.specs.Limits.{mostMessages, mostHeard, mostPayload, isoData, isoRecordSize}
 use Rattle.iso.specs.Iso.{shut, ready, noTalks, freshIso}
 use Rattle.iso_layout.specs.Sizes.{payloadSize, countIn, timeIn, leftIn, gapIn, goOnIn, payloadIn, transferSize, patternIn, flowIn, transferIn, talkSize, talksSize, messagesSize, isoFlightSize, heardSize, talksAt, messagesAt, isoFlightAt, heardAt, isoLostAt, isoLastAt, isoRegionSize}
 use Rattle.iso_layout.specs.Region.{rec536, messageCell, frameCell, heardCell, payload508, transferPlain, transferCode, talkCell, talksCode, flightCode, heardPart, isoLastPart, isoRest, readyPart, isoRegion}
@@ -42,6 +42,13 @@ abbrev pub talkNames : List ℕ
 talkNames =
     0 ∷ 1 ∷ patternIn ∷ flowIn ∷ transferIn ∷ (transferIn + countIn) ∷ (transferIn + timeIn) ∷ (transferIn + leftIn) ∷ (transferIn + gapIn) ∷ (transferIn + goOnIn)
     ∷ (transferIn + payloadIn) ∷ (transferIn + payloadIn + numberSize) ∷ talkSize ∷ []
+
+pub talk-fields : rows 0
+    (1 ∷ mark .size ∷ word32 .size ∷ word32 .size ∷ byte .size ∷ word32 .size ∷ word32 .size ∷ word32 .size ∷ word32 .size ∷ mark .size
+    ∷ word32 .size ∷ many mostPayload byte .size ∷ [])
+    ≡ talkNames
+unfolding mark many via such word32 byte
+talk-fields = refl
 
 pub talk-numbers : talkNames ≡ 0 ∷ 1 ∷ 2 ∷ 6 ∷ 10 ∷ 11 ∷ 15 ∷ 19 ∷ 23 ∷ 27 ∷ 28 ∷ 32 ∷ 540 ∷ []
 talk-numbers = refl
