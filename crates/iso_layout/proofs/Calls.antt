@@ -20,6 +20,8 @@ use Rattle.machine.specs.Filter.{Slots, free, has, taken, anySlot}
 use Rattle.machine.specs.Channel.{Config, Receiving, Call, disconnect, startFilter, startFlow, stopFilter, startPeriodic, stopPeriodic, write, read, takeNext, sent, clear, getParameter, setParameter, lastError, getList, setList, says, frameCode, isFlags, unlessStopped, listCode}
 use Rattle.machine.specs.Device.{Event, connect, call, frame, advance, close}
 use Rattle.iso.specs.Limits.{mostTalks, mostMessages, mostHeard, isoData, isoRecordSize, leastMessage}
+use Rattle.iso.specs.Step.{isoStep}
+use Rattle.iso.proofs.Fair.{ready-codes}
 use Rattle.iso.specs.Iso.{Transfer, idle, Talk, Owner, nobody, message, transferAt, Flight, OpenIso, Iso, shut, ready, IsoOutcome, noTalks, setTalks, setConfig, setWritten, setFlight, setReceiving, setLast, turned, turnedSlot, turnEach, news, shorterIso, unlessIso, did, arriveIso, becomes, heard, transmitting, airborneAt, ownerIn, flightIn, withTalks, onIsoFrame, laterTransfer, onIsoAdvance, knows, talkCode, talkOf, onStartTalk, onStopTalk, isoMessageCode, isoWriteCode, isoWriting, onIsoWrite, Chosen, choice, onChosen, isoTaking, onIsoTake, landedTalks, messagesDone, isoSending, isoReading, onIsoRead, onIsoClear, onIsoGet, isoSetTo, onIsoSet, onIsoGetList, onIsoSetList, isoConnectCode, freshIso, onIsoConnect, onReady, onIsoCall, isoCodes, isoNotes, isoNoted, isoNotedInUse}
 use Rattle.iso_layout.specs.Region.{messageCell, frameCell, ownedFits, heardCell, segmentsIn, flightCode, isoLastPart, transmitsIn, knowsOther, ownerFits, fliesIn, flightFits}
 use Rattle.layout.specs.Memory.{config}
@@ -443,22 +445,14 @@ fine-in-use x f =
     by-test Left (eqb (x .1 .code) 0x14) (isoNoted x) x
     (λ t. fine-iso-notes (x .1 .code) (subst (λ (k : ℕ). T (member k isoCodes)) (sym (eqb→eq (x .1 .code) 0x14 t)) (unfold member isoCodes in tt)) (x .0) f) f
 
--- ---- A CHANNEL KEEPS WHAT ITS REGION CAN HOLD, whatever reaches it, where each call's code is one of the channel's codes
+-- ---- A CHANNEL KEEPS WHAT ITS REGION CAN HOLD, whatever reaches it
 
--- what an event leaves of a channel that it touches
-unfoldable pub isoAfter : List ℕ → ℕ → Iso → Event → Iso
-isoAfter rates now c (connect l p f r) = isoNotedInUse (onIsoConnect rates c l p f r) .0
-isoAfter rates now c (call k x) = isoNoted (onIsoCall rates now c x) .0
-isoAfter rates now c (frame l w n b) = onIsoFrame now c w n b
-isoAfter rates now c (advance t) = onIsoAdvance t c
-isoAfter rates now c close = shut
-
-module _ (rates : List ℕ) (known : Known rates) (now : ℕ) (h : now < 2 ^ 32) (codes : (o : OpenIso) (x : Call) → T (member (onReady rates now o x .1 .code) isoCodes)) where
-  pub fine-iso-step : (c : Iso) → FineIso c → (e : Event) → Bytes e → FineIso (isoAfter rates now c e)
-  unfolding isoAfter onIsoCall onIsoFrame onIsoAdvance isoNoted isoNotes says
+module _ (rates : List ℕ) (known : Known rates) (now : ℕ) (h : now < 2 ^ 32) where
+  pub fine-iso-step : (c : Iso) → FineIso c → (e : Event) → Bytes e → FineIso (isoStep rates now c e .0)
+  unfolding isoStep onIsoCall onIsoFrame onIsoAdvance isoNoted isoNotes says
   fine-iso-step c t (connect l p f r) b = fine-in-use (onIsoConnect rates c l p f r) (fine-connect rates known now h c t l p f r)
   fine-iso-step shut t (call k x) b = t
-  fine-iso-step (ready o) t (call k x) b = fine-iso-notes (onReady rates now o x .1 .code) (codes o x) (onReady rates now o x .0) (fine-ready rates known now h o (iso-good o t) x b)
+  fine-iso-step (ready o) t (call k x) b = fine-iso-notes (onReady rates now o x .1 .code) (ready-codes rates now o x) (onReady rates now o x .0) (fine-ready rates known now h o (iso-good o t) x b)
   fine-iso-step shut t (frame l w n m) b = t
   fine-iso-step (ready o) t (frame l w n m) b = fine-frame rates known now h o (iso-good o t) w n m b
   fine-iso-step shut t (advance u) b = t
