@@ -6,6 +6,7 @@ use mathlib.Core.Option.{none}
 use mathlib.Core.List.{List}
 use lib.ListN.{length, getD, set, drop}
 use lib.Dec.{T}
+use Rattle.codec.specs.Plain.{zeros}
 use Rattle.codec.specs.Code.{via, such, slot, getSlot, upTo, both, bothOn}
 use Rattle.codec.proofs.Tests.{join}
 use Rattle.codec.proofs.Lists.{all-at}
@@ -18,14 +19,38 @@ use Rattle.layout.specs.Promise.{gives}
 use Rattle.layout.proofs.Memory.{config-lawful}
 use Rattle.layout.proofs.Sizes.{config-size}
 use Rattle.iso.specs.Limits.{mostTalks, mostMessages}
-use Rattle.iso.specs.Iso.{OpenIso, Iso, ready, setTalks, setConfig, setWritten, setFlight, setReceiving, setLast, onReady, onIsoCall}
+use Rattle.iso.specs.Iso.{OpenIso, Iso, shut, ready, setTalks, setConfig, setWritten, setFlight, setReceiving, setLast, onReady, onIsoCall}
 use Rattle.iso_layout.specs.Sizes.{talkSize, talksSize, messagesSize, isoFlightSize, heardSize, talksAt, messagesAt, isoFlightAt, heardAt, isoLastAt, isoRegionSize}
 use Rattle.iso_layout.specs.Region.{messageCell, talkCell, talksCode, flightCode, heardPart, isoLastPart, readyParts, isoRest, readyPart, isoChanBack, isoRegion}
 use Rattle.iso_layout.specs.Promise.{IsoOpened, isoGives, isoOutcome}
-use Rattle.iso_layout.proofs.Sizes.{slot-size, talks-size, messages-size, isoFlight-size, heardPart-size, isoLast-size, parts-size, isoRegion-size}
+use Rattle.iso_layout.proofs.Sizes.{slot-size, talks-size, messages-size, isoFlight-size, heardPart-size, isoLast-size, parts-size, isoRegion-size, shut-zeros}
 use Rattle.iso_layout.proofs.Lawful.{talk-lawful, talks-lawful, message-lawful, flight-lawful, heardPart-lawful, last-lawful, parts-lawful, isoRegion-lawful}
 use Rattle.iso_layout.proofs.Good.{FineIso, fli, GoodIso, iso-good, good-talks, good-heard}
 use Rattle.iso_layout.proofs.Places.{iso-config-place, talks-place, talk-place, messages-place, flight-place, receiving-place, last-place}
+
+-- ---- a closed channel's region, and an open one's
+
+module _ (r : List ℕ) (long : length r ≡ isoRegionSize) (v : T (isoRegion .valid r)) where
+  pub again : isoRegion .put (isoRegion .get r) ≡ r
+  again = isoRegion-lawful .put-get r (long ∙ sym isoRegion-size) v
+
+  -- by the first byte
+  pub is-shut : getD r 0 0 ≡ 0 → isoRegion .get r ≡ shut
+  unfolding isoRegion via slot
+  is-shut e = ap (λ (k : ℕ). isoChanBack (getSlot readyPart k (drop 1 r))) e
+
+  pub shut-bytes : getD r 0 0 ≡ 0 → r ≡ zeros isoRegionSize
+  shut-bytes e = sym again ∙ ap (isoRegion .put) (is-shut e) ∙ shut-zeros
+
+  pub not-shut : (getD r 0 0 ≡ 0 → ⊥) → IsoOpened r
+  unfolding isoRegion via slot
+  not-shut n =
+      let first : getD (isoRegion .put (isoRegion .get r)) 0 0 ≡ getD r 0 0 = ap (λ (x : List ℕ). getD x 0 0) again in
+      record { long = long; valid = v; mark = sym first ∙ one (isoRegion .get r) (λ z. n (sym first ∙ z)) }
+    where
+      one : (c : Iso) → (getD (isoRegion .put c) 0 0 ≡ 0 → ⊥) → getD (isoRegion .put c) 0 0 ≡ 1
+      one shut n = absurd (n refl)
+      one (ready o) n = refl
 
 -- what an open channel's region holds
 abbrev pub readyOf : List ℕ → OpenIso
