@@ -22,6 +22,7 @@ use Rattle.machine.specs.Device.{Event, connect, call, frame, advance, close}
 use Rattle.iso.specs.Limits.{mostTalks, mostMessages, mostHeard, isoData, isoRecordSize, leastMessage}
 use Rattle.iso.specs.Iso.{Transfer, idle, Talk, Owner, nobody, message, transferAt, Flight, OpenIso, Iso, shut, ready, IsoOutcome, noTalks, setTalks, setConfig, setWritten, setFlight, setReceiving, setLast, turned, turnedSlot, turnEach, news, shorterIso, unlessIso, did, arriveIso, becomes, heard, transmitting, airborneAt, ownerIn, flightIn, withTalks, onIsoFrame, laterTransfer, onIsoAdvance, knows, talkCode, talkOf, onStartTalk, onStopTalk, isoMessageCode, isoWriteCode, isoWriting, onIsoWrite, Chosen, choice, onChosen, isoTaking, onIsoTake, landedTalks, messagesDone, isoSending, isoReading, onIsoRead, onIsoClear, onIsoGet, isoSetTo, onIsoSet, onIsoGetList, onIsoSetList, isoConnectCode, freshIso, onIsoConnect, onReady, onIsoCall, isoCodes, isoNotes, isoNoted, isoNotedInUse}
 use Rattle.iso_layout.specs.Sizes.{isoRegionSize}
+use Rattle.iso_layout.specs.Promise.{isoAfter}
 use Rattle.iso_layout.specs.Region.{messageCell, frameCell, ownedFits, heardCell, segmentsIn, flightCode, isoLastPart, transmitsIn, knowsOther, ownerFits, fliesIn, flightFits, isoRegion}
 use Rattle.layout.specs.Memory.{config}
 use Rattle.layout.specs.Reach.{CallBytes, Bytes}
@@ -442,14 +443,6 @@ fine-in-use x f =
     (λ t. fine-iso-notes (x .1 .code) (subst (λ (k : ℕ). T (member k isoCodes)) (sym (eqb→eq (x .1 .code) 0x14 t)) (unfold member isoCodes in tt)) (x .0) f) f
 
 -- ---- A CHANNEL KEEPS WHAT ITS REGION CAN HOLD, whatever reaches it, where each call's code is one of the channel's codes
-
--- what an event leaves of a channel that it touches
-unfoldable pub isoAfter : List ℕ → ℕ → Iso → Event → Iso
-isoAfter rates now c (connect l p f r) = isoNotedInUse (onIsoConnect rates c l p f r) .0
-isoAfter rates now c (call k x) = isoNoted (onIsoCall rates now c x) .0
-isoAfter rates now c (frame l w n b) = onIsoFrame now c w n b
-isoAfter rates now c (advance t) = onIsoAdvance t c
-isoAfter rates now c close = shut
 
 module _ (rates : List ℕ) (known : Known rates) (now : ℕ) (h : now < 2 ^ 32) (codes : (o : OpenIso) (x : Call) → T (member (onReady rates now o x .1 .code) isoCodes)) where
   pub fine-iso-step : (c : Iso) → FineIso c → (e : Event) → Bytes e → FineIso (isoAfter rates now c e)
