@@ -1,5 +1,5 @@
 -- An ISO 15765 channel keeps what its region can hold, whatever reaches it: each call, a connect, a frame, an advance, a close. Assumes nothing.
-use mathlib.Core.Path.{_≡_, refl, sym, subst}
+use mathlib.Core.Path.{_≡_, refl, sym, _∙_, subst}
 use Prim.Native.Nat.{ℕ, zero, suc, _+_, _*_, _-_, _^_, _≤_, _<_, min}
 use native.Mathlib.Omega.{arith}
 use mathlib.Core.Bool.{Bool, true, false, _&&_, _||_, not, Bool·beq}
@@ -7,11 +7,11 @@ use mathlib.Core.Option.{Option, none, some}
 use mathlib.Core.List.{List, [], _∷_, _++_, map}
 use lib.ListN.{length, getD, set, drop, length-drop}
 use lib.Seq.{length-take-le}
-use lib.Dec.{T, eqb, leb, ltb, eqb→eq, nleb→lt, nltb→le, eqb-refl}
+use lib.Dec.{T, eqb, leb, eqb→eq, nleb→lt, nltb→le, eqb-refl}
 use Rattle.codec.specs.Plain.{if_then_else_, within, member, all, isByte}
 use Rattle.codec.specs.Code.{Code, byte, both, via, such, slot, upTo}
 use Rattle.codec.proofs.Tests.{left, right, join, or-either, or-left, or-right, within-low, within-high}
-use Rattle.codec.proofs.Lists.{all-drop, of-member}
+use Rattle.codec.proofs.Lists.{all-drop}
 use Rattle.codec.proofs.Many.{upTo-make, upTo-more, upTo-drop}
 use Rattle.machine.specs.Codes.{codeOf}
 use Rattle.machine.specs.Limits.{mostBytes, mostAdvance, dataIn}
@@ -23,13 +23,16 @@ use Rattle.iso.specs.Limits.{mostTalks, mostMessages, mostHeard, isoData, isoRe
 use Rattle.iso.specs.Step.{isoStep}
 use Rattle.iso.proofs.Fair.{ready-codes}
 use Rattle.iso.specs.Iso.{Transfer, idle, Talk, Owner, nobody, message, transferAt, Flight, OpenIso, Iso, shut, ready, IsoOutcome, noTalks, setTalks, setConfig, setWritten, setFlight, setReceiving, setLast, turned, turnedSlot, turnEach, news, shorterIso, unlessIso, did, arriveIso, becomes, heard, transmitting, airborneAt, ownerIn, flightIn, withTalks, onIsoFrame, laterTransfer, onIsoAdvance, knows, talkCode, talkOf, onStartTalk, onStopTalk, isoMessageCode, isoWriteCode, isoWriting, onIsoWrite, Chosen, choice, onChosen, isoTaking, onIsoTake, landedTalks, messagesDone, isoSending, isoReading, onIsoRead, onIsoClear, onIsoGet, isoSetTo, onIsoSet, onIsoGetList, onIsoSetList, isoConnectCode, freshIso, onIsoConnect, onReady, onIsoCall, isoCodes, isoNotes, isoNoted, isoNotedInUse}
-use Rattle.iso_layout.specs.Region.{messageCell, frameCell, ownedFits, heardCell, segmentsIn, flightCode, isoLastPart, transmitsIn, knowsOther, ownerFits, fliesIn, flightFits}
+use Rattle.iso_layout.specs.Sizes.{isoRegionSize}
+use Rattle.iso_layout.specs.Region.{messageCell, frameCell, ownedFits, heardCell, segmentsIn, flightCode, isoLastPart, transmitsIn, knowsOther, ownerFits, fliesIn, flightFits, isoRegion}
 use Rattle.layout.specs.Memory.{config}
 use Rattle.layout.specs.Reach.{CallBytes, Bytes}
 use Rattle.layout.proofs.Tables.{by-test, Failed, Telling, failed, by-code, own-code, yes}
 use Rattle.layout.proofs.Held.{config-make}
 use Rattle.layout.proofs.Calls.{data-bytes, Known, config-set, config-set-all}
-use Rattle.iso_layout.proofs.Held.{sending-make, TalkOk}
+use Rattle.iso_layout.proofs.Sizes.{isoRegion-size}
+use Rattle.iso_layout.proofs.Lawful.{isoRegion-lawful}
+use Rattle.iso_layout.proofs.Held.{sending-make, TalkOk, last-make}
 use Rattle.iso_layout.proofs.Good.{FineIso, fine-shut, fli, PlaceOk, Linked, GoodIso, good-iso, iso-good, Less, gone, turns, not-more, less-linked}
 use Rattle.iso_layout.proofs.Hearing.{no-segment, HeardOk, heard-ok, later-ok, place-turned, place-less, news-ok, arrive-ok}
 use Rattle.iso_layout.proofs.Taking.{MayChoose, choice-ok, FlightOk, flight-sound, LandedOk, landed-ok, dones-ok}
@@ -103,11 +106,6 @@ owner-may flags r leaves t = let cell : T (frameCell flags .ok r) = search (left
 
 nil-ok : {A : Type 0} (n : ℕ) (c : Code A) → T (upTo n c .ok [])
 nil-ok n c = upTo-make n c [] (omega arith) tt
-
--- a code that a call can give is a byte
-last-make : (k : ℕ) → T (member k isoCodes) → T (isoLastPart .ok k)
-unfolding isoLastPart such byte isoCodes
-last-make k t = join (ltb k 256) _ (of-member (λ (n : ℕ). T (ltb n 256)) _ (search tt depth 20) k t) t
 
 module _ (o : OpenIso) (g : GoodIso o) where
   -- all parts but the configuration
@@ -458,3 +456,7 @@ module _ (rates : List ℕ) (known : Known rates) (now : ℕ) (h : now < 2 ^ 32)
   fine-iso-step shut t (advance u) b = t
   fine-iso-step (ready o) t (advance u) b = fine-advance rates known now h o (iso-good o t) u
   fine-iso-step c t close b = fine-shut
+
+  -- in bytes: the region of what an event leaves of a channel is valid where the channel's was
+  pub valid-after : (r : List ℕ) → length r ≡ isoRegionSize → T (isoRegion .valid r) → (e : Event) → Bytes e → T (isoRegion .valid (isoRegion .put (isoStep rates now (isoRegion .get r) e .0)))
+  valid-after r long v e b = isoRegion-lawful .valid-put _ (fine-iso-step (isoRegion .get r) (isoRegion-lawful .ok-get r (long ∙ sym isoRegion-size) v) e b)

@@ -7,7 +7,7 @@ use mathlib.Core.Bool.{Bool, true, false, _&&_, _||_, not}
 use mathlib.Core.List.{List, [], _∷_, _++_}
 use lib.ListN.{length, drop, length-append, length-replicate}
 use lib.Seq.{take-at, drop-at}
-use lib.Dec.{T, eqb, leb, ltb, eqb→eq, eqb-refl, leb→le, le→leb, ltb→lt, lt→ltb}
+use lib.Dec.{T, eqb, leb, ltb, lit<, eqb→eq, eqb-refl, leb→le, le→leb, ltb→lt, lt→ltb}
 use Rattle.codec.specs.Plain.{if_then_else_, within, member, all, isByte, zeros, allZero}
 use Rattle.codec.specs.Code.{byte, word32, both, via, such, many}
 use Rattle.codec.proofs.Tests.{left, right, join, within-low, within-high}
@@ -15,14 +15,14 @@ use Rattle.codec.proofs.Lists.{all-append, all-take, all-zeros}
 use Rattle.codec.proofs.Lawful.{mark-ok}
 use Rattle.codec.proofs.Many.{many-make, many-each}
 use Rattle.machine.specs.Message.{bit, takes, idOf, idLimit, widthFlag, Rec}
-use Rattle.iso.specs.Iso.{Reception, Stage, opens, awaits, flies, sends, Transmission, Transfer, idle, refuses, receives, transmits, Talk, padded}
+use Rattle.iso.specs.Iso.{Reception, Stage, opens, awaits, flies, sends, Transmission, Transfer, idle, refuses, receives, transmits, Talk, padded, isoCodes}
 use Rattle.iso.specs.Limits.{idSize, isoData, leastMessage, mostPayload, leastSegmented, inFirst, inNext, second, longestGap}
 use Rattle.layout.specs.Record.{widthFits}
 use Rattle.layout.proofs.Tables.{by-test}
-use Rattle.iso_layout.specs.Region.{indication, extraIs, isoParts, isoFits, rec536, isoOutgoing, isoIncoming, heardCell, payloadParts, payloadFits, payload508, stepOf7, isGap, transferFits, transferPlain, transferCode, segmentsIn, talkFits, talkCell}
+use Rattle.iso_layout.specs.Region.{indication, extraIs, isoParts, isoFits, rec536, isoOutgoing, isoIncoming, heardCell, payloadParts, payloadFits, payload508, stepOf7, isGap, transferFits, transferPlain, transferCode, segmentsIn, talkFits, talkCell, isoLastPart}
 use Rattle.codec.proofs.Tests.{eq→eqb}
 use Rattle.codec.proofs.Lists.{of-member, zeros-bytes}
-use Rattle.codec.proofs.Lawful.{word-ok, ok-word}
+use Rattle.codec.proofs.Lawful.{word-ok, ok-word, such-test}
 
 -- ---- bytes with zeros after them
 
@@ -387,3 +387,18 @@ talk-sound flags c t =
       plain = search (left, right) depth 9;
       transfer-ok = transfer-sound (c .transfer) (search (left, right) depth 9);
     }
+
+-- ---- a last code
+
+pub last-make : (k : ℕ) → T (member k isoCodes) → T (isoLastPart .ok k)
+unfolding isoLastPart such byte isoCodes
+last-make k t = join (ltb k 256) _ (of-member (λ (n : ℕ). T (ltb n 256)) _ (search tt depth 20) k t) t
+
+-- such a code is a byte
+pub code-small : (k : ℕ) → T (member k isoCodes) → k < 256
+unfolding isoCodes
+code-small k t = of-member (λ (n : ℕ). n < 256) _ (search (lit<, tt) depth 20) k t
+
+pub last-sound : (k : ℕ) → T (isoLastPart .ok k) → T (member k isoCodes)
+unfolding isoLastPart
+last-sound k t = such-test byte _ k t

@@ -6,27 +6,22 @@ use mathlib.Core.List.{List}
 use lib.ListN.{length}
 use lib.Dec.{T}
 use Rattle.codec.specs.Plain.{member}
-use Rattle.codec.specs.Code.{byte, slot}
+use Rattle.codec.specs.Code.{slot}
 use Rattle.codec.proofs.Lists.{Each}
-use Rattle.codec.proofs.Lawful.{such-test}
 use Rattle.codec.proofs.Many.{upTo-count, upTo-each, many-count, many-each}
 use Rattle.machine.specs.Codes.{threeRates}
 use Rattle.machine.specs.Channel.{isFlags}
 use Rattle.iso.specs.Limits.{mostTalks, mostMessages, mostHeard, isoData}
 use Rattle.iso.specs.Iso.{OpenIso, ready, isoCodes}
 use Rattle.iso_layout.specs.Sizes.{isoRegionSize}
-use Rattle.iso_layout.specs.Region.{messageCell, heardCell, talkCell, talksCode, flightCode, isoLastPart, isoRegion}
+use Rattle.iso_layout.specs.Region.{messageCell, heardCell, talkCell, talksCode, flightCode, isoRegion}
 use Rattle.layout.proofs.Held.{config-flags, config-rate}
 use Rattle.layout.proofs.Limits.{If, each-of, if-taken}
 use Rattle.iso_layout.proofs.Sizes.{isoRegion-size}
 use Rattle.iso_layout.proofs.Lawful.{isoRegion-lawful}
-use Rattle.iso_layout.proofs.Held.{ToSend, sending-sound, ToRead, reading-sound, TalkOk, talk-sound}
+use Rattle.iso_layout.proofs.Held.{ToSend, sending-sound, ToRead, reading-sound, TalkOk, talk-sound, last-sound}
 use Rattle.iso_layout.proofs.Good.{FineIso, fli, GoodIso, iso-good, good-talks}
 use Rattle.iso_layout.proofs.Taking.{FlightOk, flight-sound}
-
-pub last-sound : (k : ℕ) → T (isoLastPart .ok k) → T (member k isoCodes)
-unfolding isoLastPart
-last-sound k t = such-test byte (λ n. member n isoCodes) k t
 
 -- each conversation, message, frame and record by itself; how conversations and flight hang together is `Linked`
 pub record Limits (o : OpenIso) : Type 0 where
