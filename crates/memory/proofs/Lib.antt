@@ -1,2 +1,3 @@
 pub mod Memory
 pub mod Reach
+pub mod Rows
