@@ -58,7 +58,7 @@ abbrev Regions : Code (List Chan × List Iso)
 Regions = both (many lines region) (many lines isoRegion)
 
 -- the four raw regions lie behind the clock, the four others behind them
-pub raws : Row Chan
+unfoldable pub raws : Row Chan
 unfolding memory word word32 chanAt
 raws =
     record {
@@ -80,7 +80,11 @@ raws =
           (in-many region-lawful closed lines (d .chans) i (many-each lines region (d .chans) (chans-ok d t)) (omega (arith, many-count lines region (d .chans) (chans-ok d t)))))));
     }
 
-pub isos : Row Iso
+pub raws-size : many lines region .size ≡ regionsSize
+unfolding many
+raws-size = ap (λ (k : ℕ). lines * k) region-size
+
+unfoldable pub isos : Row Iso
 unfolding memory word word32 isoAt
 isos =
     record {
@@ -101,9 +105,10 @@ isos =
           (inside (in-second (many lines region) (many lines isoRegion) (deviceParts d .1) (many-lawful region-lawful lines .long (d .chans) (chans-ok d t)))
           (in-many isoRegion-lawful shut lines (d .isos) i (many-each lines isoRegion (d .isos) (isos-ok d t)) (omega (arith, many-count lines isoRegion (d .isos) (isos-ok d t)))))));
     }
-  where
-    raws-size : many lines region .size ≡ regionsSize
-    raws-size = unfold many in ap (λ (k : ℕ). lines * k) region-size
+
+-- what a channel leaves and answers, with the bytes of its region
+abbrev pub rowGives : {C : Type 0} → Row C → C × Answer → Result
+rowGives w x = answered (x .1) (w .code .put (x .0))
 
 -- ---- a memory that is not valid
 
@@ -165,7 +170,7 @@ module _ (m : List ℕ) (v : T (valid m)) where
 
     -- THE LAW OF ENTRIES: what a function on the region shows is what the memory's promise says of an event that moves that channel alone
     pub entered : (rates : List ℕ) (e : Event) (x : C × Answer) → step rates (load m) e ≡ (w .put i (x .0) (load m), x .1) → (c u : ℕ) (b ys : List ℕ)
-        → gives c u b ys ≡ answered (x .1) (w .code .put (x .0)) → (base : ℕ) → base ≡ begin → gives c u b (putMid base (base + w .size - base) m ys) ≡ outcome rates m e
+        → gives c u b ys ≡ rowGives w x → (base : ℕ) → base ≡ begin → gives c u b (putMid base (base + w .size - base) m ys) ≡ outcome rates m e
     entered rates e x s c u b ys r base is =
         let span : base + w .size - base ≡ w .size = omega arith in
         ap₂ (λ (a j : ℕ). gives c u b (putMid a j m ys)) is span
