@@ -1,3 +1,5 @@
 pub mod Limits
 pub mod Talk
 pub mod Iso
+pub mod Step
+pub mod Demands

@@ -93,11 +93,11 @@ get-keeps-parameters c (p ∷ ps) = by (either (getIn c (p .0) .0)) (get-keeps-p
 
 -- ---- the calls on an open channel
 
-few-code : (ps : Pairs) → length ps ≤ mostPairs → listCode ps ≡ 0
+pub few-code : (ps : Pairs) → length ps ≤ mostPairs → listCode ps ≡ 0
 unfolding listCode codeOf
 few-code ps h = rw (le-ltb 16 (length ps) h) refl
 
-many-code : (ps : Pairs) → mostPairs < length ps → listCode ps ≡ 4
+pub many-code : (ps : Pairs) → mostPairs < length ps → listCode ps ≡ 4
 unfolding listCode codeOf
 many-code ps h = rw (lt-ltb 16 (length ps) h) refl
 

@@ -1,0 +1,5 @@
+pub mod Carried
+pub mod Fair
+pub mod Counts
+pub mod Lists
+pub mod Traces

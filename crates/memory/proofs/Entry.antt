@@ -1,0 +1,149 @@
+-- From what a call's function on a channel's region shows, and its code noted behind it, to what an entry on the whole memory promises: once for all
+-- calls and for both kinds of channel. Assumes nothing.
+use mathlib.Core.Path.{_≡_, refl, sym, ap, ap₂, _∙_, subst}
+use Prim.Native.Nat.{ℕ, zero, suc, _+_, _*_, _-_, _≤_, _<_}
+use native.Mathlib.Nat.{suc-ne-zero}
+use native.Mathlib.Omega.{arith}
+use mathlib.Core.Bool.{Bool, true, false, _||_}
+use mathlib.Core.List.{List, []}
+use lib.ListN.{length, set, take, drop}
+use lib.Seq.{length-take-le}
+use lib.Dec.{T, eqb, eqb→eq}
+use borrow.Rule.Slice.PartMut.{putMid, midOf}
+use Rattle.codec.specs.Code.{Code}
+use Rattle.machine.specs.Limits.{lines}
+use Rattle.machine.specs.Channel.{Chan, closed, opened, Call, lent, Answer, says, onCall, isOpen, notes, noted}
+use Rattle.machine.specs.Device.{Event, call}
+use Rattle.machine.proofs.Refusals.{open-opens}
+use Rattle.layout.specs.Sizes.{regionSize, lastAt}
+use Rattle.layout.specs.Promise.{Result, gives}
+use Rattle.layout.proofs.Entry.{last-stored, set-middle}
+use Rattle.iso.specs.Iso.{Iso, shut, ready, onIsoCall, isReady, isoNotes, isoNoted}
+use Rattle.iso.proofs.Fair.{ready-readies}
+use Rattle.iso_layout.specs.Sizes.{isoRegionSize, isoLastAt}
+use Rattle.iso_layout.proofs.Region.{iso-notes-stored}
+use Rattle.whole.specs.Device.{Device, step}
+use Rattle.whole.specs.Demands.{EightChannels}
+use Rattle.whole.proofs.Dispatch.{step-call, step-iso-call}
+use Rattle.memory.specs.Memory.{load, valid}
+use Rattle.memory.specs.Promise.{outcome, notedIn}
+use Rattle.memory.proofs.Memory.{ok-load}
+use Rattle.memory.proofs.Reach.{ok-sane}
+use Rattle.memory.proofs.Rows.{Row, raws, isos, rowGives, region-got, region-long, region-ends, entered}
+
+-- ---- a kind of channel: its row of regions, the numbers of its channels, what a call does, and its last code, a byte of its region
+
+pub record Kind (C : Type 0) : Type 0 where
+  pub row : Row C
+  pub number : ℕ → ℕ
+  pub on : List ℕ → ℕ → C → Call → C × Answer
+  pub openly : C → Bool
+  pub notes : ℕ → C → C
+  pub last : ℕ
+  pub last-in : last < row .size
+  pub unnoted : (c : C) → notes 0 c ≡ c
+  pub stored : (c : C) (k : ℕ) → T (openly c) → length (row .code .put c) ≡ row .size → set (row .code .put c) last (suc k) ≡ row .code .put (notes (suc k) c)
+  pub opens : (rates : List ℕ) (now : ℕ) (c : C) (x : Call) → T (openly c) → T (openly (on rates now c x .0) || eqb (on rates now c x .1 .code) 0)
+  pub steps : (rates : List ℕ) (d : Device) (i : ℕ) (x : Call) → EightChannels d → i < lines
+      → step rates d (call (number i) x) ≡ (row .put i (notes (on rates (d .clock) (row .chan i d) x .1 .code) (on rates (d .clock) (row .chan i d) x .0)) d, on rates (d .clock) (row .chan i d) x .1)
+
+raw-stored : (c : Chan) (k : ℕ) → T (isOpen c) → length (raws .code .put c) ≡ regionSize → set (raws .code .put c) lastAt (suc k) ≡ raws .code .put (notes (suc k) c)
+unfolding raws isOpen notes
+raw-stored closed k t long = absurd t
+raw-stored (opened o) k t long = last-stored o (suc k) long
+
+raw-opens : (rates : List ℕ) (now : ℕ) (c : Chan) (x : Call) → T (isOpen c) → T (isOpen (onCall rates now c x .0) || eqb (onCall rates now c x .1 .code) 0)
+unfolding isOpen onCall
+raw-opens rates now closed x t = absurd t
+raw-opens rates now (opened o) x t = open-opens rates now o x
+
+iso-opens : (rates : List ℕ) (now : ℕ) (c : Iso) (x : Call) → T (isReady c) → T (isReady (onIsoCall rates now c x .0) || eqb (onIsoCall rates now c x .1 .code) 0)
+unfolding isReady onIsoCall
+iso-opens rates now shut x t = absurd t
+iso-opens rates now (ready o) x t = ready-readies rates now o x
+
+-- raw CAN has the numbers 1 to 4, ISO 15765 5 to 8
+pub rawKind : Kind Chan
+unfolding raws notes noted
+rawKind =
+    record {
+      row = raws;
+      number = λ i. i + 1;
+      on = onCall;
+      openly = isOpen;
+      notes = notes;
+      last = lastAt;
+      last-in = omega arith;
+      unnoted = λ c. refl;
+      stored = raw-stored;
+      opens = raw-opens;
+      steps = λ rates d i x w h. step-call rates d i x w h;
+    }
+
+pub isoKind : Kind Iso
+unfolding isos isoNotes isoNoted
+isoKind =
+    record {
+      row = isos;
+      number = λ i. i + 5;
+      on = onIsoCall;
+      openly = isReady;
+      notes = isoNotes;
+      last = isoLastAt;
+      last-in = omega arith;
+      unnoted = λ c. refl;
+      stored = iso-notes-stored;
+      opens = iso-opens;
+      steps = λ rates d i x w h. step-iso-call rates d i x w h;
+    }
+
+-- noting a code in the region is noting it in the memory that the region lies in
+noted-there : (m : List ℕ) (last base n k : ℕ) (ys : List ℕ) → base ≤ length m → last < length ys → notedIn last base k (putMid base n m ys) ≡ putMid base n m (notedIn last 0 k ys)
+unfolding notedIn
+noted-there m last base n zero ys h long = refl
+noted-there m last base n (suc k) ys h long =
+    let l : length (take base m) ≡ base = length-take-le base m h in
+    let z : last ≡ 0 + last = omega arith in
+    ap (λ (i : ℕ). set (putMid base n m ys) (i + last) (suc k)) (sym l) ∙ set-middle (take base m) ys (drop n (drop base m)) last (suc k) long
+    ∙ ap (λ (i : ℕ). putMid base n m (set ys i (suc k))) z
+
+module _ {C : Type 0} (kind : Kind C) where
+  abbrev w : Row C
+  w = kind .row
+
+  -- the code of a call on a region, noted in the bytes that the call left, is the code noted by the channel
+  notes-stored : (c : C) (k : ℕ) → T (kind .openly c || eqb k 0) → length (w .code .put c) ≡ w .size → notedIn (kind .last) 0 k (w .code .put c) ≡ w .code .put (kind .notes k c)
+  unfolding notedIn
+  notes-stored c zero t long = ap (w .code .put) (sym (kind .unnoted c))
+  notes-stored c (suc k) t long =
+      let z : 0 + kind .last ≡ kind .last = omega arith in
+      ap (λ (i : ℕ). set (w .code .put c) i (suc k)) z ∙ kind .stored c k (open? (kind .openly c) t) long
+    where
+      open? : (b : Bool) → T (b || eqb (suc k) 0) → T b
+      open? true t = tt
+      open? false t = absurd (suc-ne-zero k (eqb→eq (suc k) 0 t))
+
+  module _ (m : List ℕ) (v : T (valid m)) (i : ℕ) (h : i < lines) (base : ℕ) (is : base ≡ w .first + i * w .size) (up : T (kind .openly (w .chan i (load m)))) where
+    -- the region that is lent
+    pub lies : midOf base (base + w .size - base) m ≡ take (w .size) (drop (w .first + i * w .size) m)
+    lies = let span : base + w .size - base ≡ w .size = omega arith in ap₂ (λ (a j : ℕ). midOf a j m) is span
+
+    got-here : w .code .get (midOf base (base + w .size - base) m) ≡ w .chan i (load m)
+    got-here = ap (w .code .get) lies ∙ region-got m v w i h
+
+    -- THE LAW OF CALLS: what a function on the region shows, with its code noted, is the memory's promise
+    pub called : (rates : List ℕ) (x : Call) (c u : ℕ) (b ys zs : List ℕ) → length ys ≡ w .size
+        → gives c u b ys ≡ rowGives w (kind .on rates (load m .clock) (w .code .get (midOf base (base + w .size - base) m)) x)
+        → zs ≡ notedIn (kind .last) base c (putMid base (base + w .size - base) m ys) → gives c u b zs ≡ outcome rates m (call (kind .number i) x)
+    called rates x c u b ys zs long r n =
+        let a : C × Answer = kind .on rates (load m .clock) (w .chan i (load m)) x in
+        let q : gives c u b ys ≡ rowGives w a = r ∙ ap (λ (z : C). rowGives w (kind .on rates (load m .clock) z x)) got-here in
+        let y : ys ≡ w .code .put (a .0) = ap (λ (z : Result). z .memory) q in
+        let e : c ≡ a .1 .code = ap (λ (z : Result). z .code) q in
+        let in-memory : base ≤ length m = omega (arith, region-ends m v w i h) in
+        let in-region : kind .last < length ys = subst (λ (k : ℕ). kind .last < k) (sym long) (kind .last-in) in
+        ap (λ (z : List ℕ). gives c u b z) (n ∙ noted-there m (kind .last) base (base + w .size - base) c ys in-memory in-region)
+        ∙ entered m v w i h rates (call (kind .number i) x) (kind .notes (a .1 .code) (a .0), a .1) (kind .steps rates (load m) i x (ok-sane (load m) (ok-load m v) .eight) h) c u b (notedIn (kind .last) 0 c ys)
+        (ap₂ (λ (z : Result) (l : List ℕ). gives (z .code) (z .value) (z .buffer) l) q
+        (ap₂ (notedIn (kind .last) 0) e y ∙ notes-stored (a .0) (a .1 .code) (kind .opens rates (load m .clock) (w .chan i (load m)) x up) (ap length (sym y) ∙ long)))
+        base is

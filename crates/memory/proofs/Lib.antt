@@ -1,0 +1,4 @@
+pub mod Memory
+pub mod Reach
+pub mod Rows
+pub mod Entry

@@ -1,0 +1,5 @@
+pub mod Dispatch
+pub mod Isolation
+pub mod Refusals
+pub mod FromPowerOn
+pub mod Traces

@@ -1,0 +1,3 @@
+-- Worked traces of the whole box from power-on, each proved by `refl`. Assumes nothing.
+pub mod Words
+pub mod Beside
