@@ -158,7 +158,7 @@ static void some_time(void) {
     const module *m = &modules[below(MODULES)];
     uint32_t us = ONE_OF(0, 1, below(100), below(3000), 999999, 1000000), most = 1000000;
     if (chance(50) && pause_of(m)) us = pause_of(m) - below(2);
-    else if (chance(30) && left_of(m)) us = left_of(m) - below(3) % 2;
+    else if (chance(50) && left_of(m)) us = left_of(m) - below(3) % 2;
     for (int i = 0; i < MODULES && !rough; i++) /* nobody is late in a calm story */
         if (left_of(&modules[i]) && left_of(&modules[i]) - 1 < most) most = left_of(&modules[i]) - 1;
     pass(us < most ? us : most);
@@ -304,7 +304,8 @@ static void module_acts(int i) {
         }
     }
     if (chance(3)) say_nothing(i);
-    else if (m->box == AWAITS) say_flow(i, chance(15));
+    else if (m->box == AWAITS && chance(40)) return; /* not yet */
+    else if (m->box == AWAITS) say_flow(i, rough && chance(10) ? (uint8_t)below(16) : (uint8_t)chance(25));
     else if (m->box != NOT) return;
     else if (m->says && (m->owed == 0 || chance(20))) say_next(i, RIGHT); /* seldom before it was asked to */
     else if (!m->says && chance(15)) chance(40) || m->own == m->to ? say_single(i) : say_first(i);

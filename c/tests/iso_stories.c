@@ -900,13 +900,16 @@ static void valid_talks(void) {
     MUST(*at(KIND) == 3 && word(at(N)) == 6 && word(at(COUNT)) == 14 && *at(OWNER) == 2);
     NO_NUMBER(N, 13), NO_NUMBER(TIME, 1), NO_NUMBER(LEFT, 1), NO_NUMBER(GAP, 100), NO_NUMBER(COUNT, 13), NO_NUMBER(COUNT, 7), NO_BYTE(OWNER, 0);
     NO_BYTE(ASKED, 1), A_NUMBER(T + 6, 0x641);
-    memcpy(at(T2 + 10), at(KIND), 530); /* two transmit */
-    MUST(!on->valid(BOX));
-    memset(at(T2 + 10), 0, 530);
     SENT;
     MUST(*at(KIND) == 4);
     A_NUMBER(N, 13), NO_NUMBER(N, 20), NO_NUMBER(N, 7), A_NUMBER(TIME, 999999), NO_NUMBER(TIME, 1000000), NO_NUMBER(LEFT, 1), NO_NUMBER(GAP, 100);
-    NO_NUMBER(COUNT, 7), NO_NUMBER(COUNT, 509);
+    NO_NUMBER(COUNT, 509);
+    memcpy(at(T2 + 10), at(KIND), 530); /* two transmit */
+    MUST(!on->valid(BOX));
+    memset(at(T2 + 10), 0, 530);
+    memset(at(PAYLOAD), 0, 14);
+    A_NUMBER(COUNT, 8), NO_NUMBER(COUNT, 7);
+    for (uint8_t i = 0; i < 14; i++) *at(PAYLOAD + i) = (uint8_t)(i + 1);
     FRAME(0x30, 5, 0xF3);
     MUST(*at(KIND) == 6 && word(at(LEFT)) == 5 && word(at(GAP)) == 300);
     A_NUMBER(LEFT, 255), NO_NUMBER(LEFT, 256), A_NUMBER(LEFT, 0), A_NUMBER(TIME, 300), NO_NUMBER(TIME, 301);
