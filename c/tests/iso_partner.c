@@ -1,7 +1,7 @@
-/* Modules that talk to an ISO 15765 channel: `iso_partner [SEED [ROUNDS]]`. Each story has one channel, two conversations and a module at the other end
- * of each, which assembles what it hears and says messages of its own; in rough stories they also say what they shouldn't and are late. What is
- * written must be what a module assembles, what a module says must be what is read, and everything in its order and its time. Everything is
- * repeatable; a story is told to every side there is. */
+/* Modules that talk to an ISO 15765 channel: `iso_partner [SEED [ROUNDS]]`. Each story has one channel, two conversations and a module at the
+ * other end of each, which assembles what it hears and says messages of its own; in rough stories they also say what they shouldn't and are late.
+ * What is written must be what a module assembles, what a module says must be what is read, and everything in its order and its time.
+ * Everything is repeatable; a story is told to every side there is. */
 #include <stdio.h>
 #include <stdlib.h>
 #include <string.h>
@@ -611,8 +611,8 @@ int main(int argc, char **argv) {
         on = *s, seed = first ? first : 1;
         for (uint32_t r = 0; r < 60 * (rounds ? rounds : 1); r++) story();
     }
-    printf("stories with modules: %lu, %lu calls, %lu frames; messages assembled %lu (single ones %lu), read %lu; given up %lu, late %lu, too long %lu, "
-           "answers withdrawn %lu, records lost %lu\n",
+    printf("stories with modules: %lu, %lu calls, %lu frames; messages assembled %lu (single ones %lu), read %lu; given up %lu, late %lu, "
+           "too long %lu, answers withdrawn %lu, records lost %lu\n",
            stories, calls, frames, assembled, singles, received, dropped, late, refused, withdrawn, lost_records);
     MUST(assembled && singles && received && dropped && late && refused && withdrawn && lost_records);
     for (size_t i = 0; i < sizeof lengths / sizeof *lengths; i++) MUST(went[lengths[i]] && came[lengths[i]]);

@@ -9,8 +9,8 @@
 #include "random.h"
 
 enum { GUARD = 16, ROOM = 10 * RECORD, SIDES = 2, PAIRS = 20 };
-enum { CONNECT = 1, DISCONNECT, CLOSE, ADVANCE, FRAME, START_FILTER, STOP_FILTER, START_PERIODIC, STOP_PERIODIC, WRITE, READ, TAKE, SENT, CLEAR, GET, SET,
-       SET_LIST, GET_LIST, LAST_ERROR, KINDS = LAST_ERROR };
+enum { CONNECT = 1, DISCONNECT, CLOSE, ADVANCE, FRAME, START_FILTER, STOP_FILTER, START_PERIODIC, STOP_PERIODIC, WRITE, READ, TAKE, SENT, CLEAR,
+       GET, SET, SET_LIST, GET_LIST, LAST_ERROR, KINDS = LAST_ERROR };
 
 /* a lent buffer between guards */
 typedef struct {
@@ -32,7 +32,7 @@ typedef struct {
 
 static uint8_t memories[SIDES][GUARD + BOX_MOST + GUARD], *const mine = memories[0] + GUARD; /* that of the first side */
 static const side *on;                                                                      /* the first side */
-static unsigned long counted[KINDS + 1][0x20], turn, made, spoilt, kinds[7];
+static unsigned long counted[KINDS + 1][0x20], turn, made, spoilt;
 static const event *playing;
 static uint32_t busy; /* the line where most of it happens */
 
@@ -152,9 +152,9 @@ static void some_list(event *e, uint32_t damage) {
 }
 
 static void some_event(event *e, uint32_t damage) {
-    static const uint32_t often[] = {CONNECT, ADVANCE, ADVANCE, FRAME, FRAME, FRAME, FRAME, FRAME, FRAME, FRAME, START_FILTER, START_FILTER, STOP_FILTER,
-                                     WRITE, WRITE, READ, READ, TAKE, TAKE, TAKE, TAKE, SENT, SENT, SENT, SENT, CLEAR, GET, SET, SET_LIST, GET_LIST,
-                                     LAST_ERROR, START_PERIODIC, STOP_PERIODIC, DISCONNECT};
+    static const uint32_t often[] = {CONNECT, ADVANCE, ADVANCE, FRAME, FRAME, FRAME, FRAME, FRAME, FRAME, FRAME, START_FILTER, START_FILTER,
+                                     STOP_FILTER, WRITE, WRITE, READ, READ, TAKE, TAKE, TAKE, TAKE, SENT, SENT, SENT, SENT, CLEAR, GET, SET,
+                                     SET_LIST, GET_LIST, LAST_ERROR, START_PERIODIC, STOP_PERIODIC, DISCONNECT};
     uint32_t n = below(4);
     size_t size;
     memset(e, 0, sizeof *e);
@@ -170,7 +170,10 @@ static void some_event(event *e, uint32_t damage) {
         e->a = off(below(4), damage), e->b = off(chance(80) ? 6 : 5, damage), e->c = off(ONE_OF(0, 0, 0x100, 0x800, 0x900), damage);
         e->d = off(ONE_OF(125000, 250000, 250000, 500000, 500000), damage);
         break;
-    case ADVANCE: e->a = off(ONE_OF(0, 1, 99, 100, 900, 1000, 1000, 5000, 5000, 127000, chance(80) ? 1 : ONE_OF(499999, 999999, 1000000, below(1000001))), damage); break;
+    case ADVANCE:
+        e->a = chance(90) ? ONE_OF(0, 1, 99, 100, 900, 1000, 1000, 5000, 5000, 127000) : ONE_OF(499999, 999999, 1000000, below(1000001));
+        e->a = off(e->a, damage);
+        break;
     case FRAME: some_frame(e, damage); break;
     case START_FILTER: some_filter(e, damage); break;
     case STOP_FILTER: case STOP_PERIODIC: e->b = off(1 + below(2), damage); break;
@@ -261,7 +264,8 @@ static void only_its_own(uint8_t *before, const event *e, reply r) {
     if (e->kind == LAST_ERROR && memcmp(before, mine, on->memory)) fail("asking changed something", on);
     if (!refused(e, r)) return;
     if (r.value != 0 && r.value != 0xBADC0DEu) fail("a refusal gave a number", on);
-    if (its && mine[region(its)] && r.code != 0x02 && (e->kind != CONNECT || r.code == 0x14)) before[region(its) + size_of(its) - 1] = (uint8_t)r.code;
+    if (its && mine[region(its)] && r.code != 0x02 && (e->kind != CONNECT || r.code == 0x14))
+        before[region(its) + size_of(its) - 1] = (uint8_t)r.code;
     if (memcmp(before, mine, on->memory)) fail("a refusal changed the memory", on);
 }
 
@@ -270,22 +274,23 @@ static void all_play(event *e) {
     static uint8_t before[BOX_MOST];
     static event first, other;
     reply a;
-    playing = e, first = *e;
+    playing = e;
+    memcpy(&first, e, sizeof first);
     memcpy(before, mine, on->memory);
     a = play(on, mine, &first);
     only_its_own(before, e, a);
     if (refused(e, a) && memcmp(first.first.room, e->first.room, sizeof e->first.room)) fail("a refusal changed a buffer", on);
     if (!on->valid(mine, on->memory)) fail("the memory is not valid", on);
-    for (int k = 0; sides[k]; k++) {
-        other = *e;
-        if (k > 0) {
-            reply b = play(sides[k], memories[k] + GUARD, &other);
-            if (a.code != b.code || a.value != b.value) fail("another answer", sides[k]);
-            if (memcmp(&first, &other, sizeof first)) fail("other buffers", sides[k]);
-            if (memcmp(mine, memories[k] + GUARD, on->memory)) fail("another memory", sides[k]);
-        }
-        if (!guarded(memories[k], on->memory)) fail("guard bytes of the memory", sides[k]);
+    for (int k = 1; sides[k]; k++) {
+        reply b;
+        memcpy(&other, e, sizeof other);
+        b = play(sides[k], memories[k] + GUARD, &other);
+        if (a.code != b.code || a.value != b.value) fail("another answer", sides[k]);
+        if (memcmp(&first, &other, sizeof first)) fail("other buffers", sides[k]);
+        if (memcmp(mine, memories[k] + GUARD, on->memory)) fail("another memory", sides[k]);
     }
+    for (int k = 0; sides[k]; k++)
+        if (!guarded(memories[k], on->memory)) fail("guard bytes of the memory", sides[k]);
     if (!guarded(first.first.room, first.first.n) || !guarded(first.second.room, first.second.n) || !guarded(first.third.room, first.third.n))
         fail("guard bytes of a buffer", on);
     counted[e->kind][a.code & 0x1F]++;
@@ -324,7 +329,7 @@ static void some_flight(uint8_t *r, uint32_t talks_wide) {
 /* something of an open channel is made anew; where that is no valid memory, every call says so and nothing changes */
 static void make(event *e) {
     static uint8_t before[BOX_MOST];
-    uint32_t channel = 5 + below(4);
+    uint32_t channel = 5 + below(4), at;
     uint8_t *r = mine + region(channel);
     int valid;
     if (!r[0]) return;
@@ -332,8 +337,14 @@ static void make(event *e) {
     playing = NULL;
     switch (below(5)) {
     case 0: r[below(on->region)] = (uint8_t)(chance(50) ? below(8) : any()); break;
-    case 1: put_word(r + ONE_OF(1, 5, TALK + N, TALK + TIME, TALK + LEFT, TALK + GAP, TALK + COUNT, TALK + PATTERN, TALK + FLOW), ONE_OF(0, 1, 255, 256, any())); break;
-    case 2: r[ONE_OF(0, 9, TALK, TALK + 1, TALK + KIND, TALK + ASKED, OUT, FLYING, OWNER, IN, LOST, LAST)] = (uint8_t)below(chance(80) ? 4 : 256); break;
+    case 1:
+        at = ONE_OF(1, 5, TALK + N, TALK + TIME, TALK + LEFT, TALK + GAP, TALK + COUNT, TALK + PATTERN, TALK + FLOW);
+        put_word(r + at, ONE_OF(0, 1, 255, 256, any()));
+        break;
+    case 2:
+        at = ONE_OF(0, 9, TALK, TALK + 1, TALK + KIND, TALK + ASKED, OUT, FLYING, OWNER, IN, LOST, LAST);
+        r[at] = (uint8_t)below(chance(80) ? 4 : 256);
+        break;
     default:
         for (int i = 0; i < 2; i++)
             if (r[TALK + TALK_SIZE * i] && chance(70)) some_transfer(r + TALK + TALK_SIZE * i);
@@ -342,22 +353,20 @@ static void make(event *e) {
         break;
     }
     valid = on->valid(mine, on->memory);
-    for (int k = 0; sides[k]; k++)
-        if (k > 0) {
-            memcpy(memories[k] + GUARD, mine, on->memory);
-            if (sides[k]->valid(memories[k] + GUARD, on->memory) != valid) fail("valid on one side", sides[k]);
-        }
+    all_have();
+    for (int k = 1; sides[k]; k++)
+        if (sides[k]->valid(memories[k] + GUARD, on->memory) != valid) fail("valid on one side", sides[k]);
     if (valid) {
-        made++, kinds[r[TALK + KIND]]++;
+        made++;
         return;
     }
     for (int k = 0; sides[k]; k++) {
         static event other;
         static uint8_t spoiled[BOX_MOST];
         memcpy(spoiled, memories[k] + GUARD, on->memory);
-        other = *e;
+        memcpy(&other, e, sizeof other);
         if (play(sides[k], memories[k] + GUARD, &other).code != 0x1A) fail("not valid, and no 0x1A", sides[k]);
-        if (memcmp(spoiled, memories[k] + GUARD, on->memory) || memcmp(&other, e, offsetof(event, count)) != 0) fail("0x1A changed something", sides[k]);
+        if (memcmp(spoiled, memories[k] + GUARD, on->memory) || memcmp(&other, e, sizeof other)) fail("0x1A changed something", sides[k]);
     }
     spoilt++;
     memcpy(mine, before, on->memory);
@@ -395,6 +404,7 @@ int main(int argc, char **argv) {
     for (uint32_t r = 0; r < 20 * (rounds ? rounds : 1); r++) sequence(600, r % 3 * 5, r % 5 < 2 ? 0 : 10);
     for (int k = 1; k <= KINDS; k++)
         for (int c = 0; c < 0x20; c++) events += counted[k][c], answers += counted[k][c] > 0;
-    printf("random calls on ISO 15765 channels: %lu, %lu pairs of a call and a code; memories made: %lu valid, %lu not\n", events, answers, made, spoilt);
+    printf("random calls on ISO 15765 channels: %lu, %lu pairs of a call and a code; memories made: %lu valid, %lu not\n", events, answers, made,
+           spoilt);
     return 0;
 }

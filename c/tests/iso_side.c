@@ -1,7 +1,6 @@
 /* See iso_side.h. */
 #include "iso_side.h"
 
-#include <stdio.h>
 #include <string.h>
 
 #include "../twin/box.h"
@@ -40,11 +39,4 @@ int is_record(const uint8_t *p, uint32_t rx, uint32_t tx, uint32_t time, uint32_
     uint8_t clean[RECORD];
     record_at(clean, RECORD, 6, rx, tx, time, n ? 4 + n : 0, id, payload, n);
     return memcmp(p, clean, RECORD) == 0;
-}
-
-const char *shown(const uint8_t *p, size_t n) {
-    static char text[3 * 64 + 1];
-    text[0] = 0;
-    for (size_t i = 0; i < n && i < 64; i++) sprintf(text + 3 * i, "%02X ", p[i]);
-    return text;
 }

@@ -37,14 +37,14 @@ typedef struct {
     uint32_t (*last_error)(const uint8_t *m, size_t len, uint32_t channel, uint32_t *code);
 } side;
 
-extern const side *const sides[]; /* all there are, then NULL */
+extern const side *const sides[]; /* all there are, then NULL; their memories lie alike */
 
 /* ---- numbers and records in bytes ---- */
 
 uint32_t word(const uint8_t *p);
 void put_word(uint8_t *p, uint32_t v);
 
-/* a record of this size (RAW_RECORD or RECORD) with an identifier and n bytes behind it, the first extra ones of the record as told, zeros behind */
+/* a record of this size (RAW_RECORD or RECORD): its numbers, an identifier, n bytes behind it, zeros */
 void record_at(uint8_t *p, size_t size, uint32_t protocol, uint32_t rx, uint32_t tx, uint32_t time, uint32_t extra, uint32_t id,
                const uint8_t *payload, uint32_t n);
 
@@ -53,8 +53,5 @@ void message_at(uint8_t *p, uint32_t tx, uint32_t id, const uint8_t *payload, ui
 
 /* is p such a record of these channels, byte for byte? Its extra index is its size, or 0 without payload */
 int is_record(const uint8_t *p, uint32_t rx, uint32_t tx, uint32_t time, uint32_t id, const uint8_t *payload, uint32_t n);
-
-/* a row of bytes as text, for what is told of a failure */
-const char *shown(const uint8_t *p, size_t n);
 
 #endif

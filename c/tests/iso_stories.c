@@ -1,4 +1,5 @@
-/* Stories of ISO 15765 channels, worked out by hand from the request, told to every side there is. 641 is the partner's identifier, 241 the box's own. */
+/* Stories of ISO 15765 channels, worked out by hand from the request, told to every side there is. 641 is the partner's identifier, 241 the box's
+ * own. The first eight are the examples of its readings. */
 #include <stdio.h>
 #include <stdlib.h>
 #include <string.h>
