@@ -122,7 +122,7 @@ static void some_filter(event *e, uint32_t damage) {
 
 /* a frame, most often one that a conversation of the line waits for */
 static void some_frame(event *e, uint32_t damage) {
-    uint32_t i = below(2), status = ONE_OF(0, 0, 0, 0, 1, 2, below(16)), length = ONE_OF(8, 13, 14, 21, 100, 507, 508, 509, 4095, below(4096));
+    uint32_t i = below(2), status = ONE_OF(0, 0, 0, 0, 1, 2, below(16)), length = ONE_OF(7, 8, 13, 14, 21, 100, 508, 509, 4095, below(4096));
     const uint8_t *t;
     uint8_t b[9];
     size_t n = chance(70) ? 8 : below(9);
@@ -133,7 +133,7 @@ static void some_frame(event *e, uint32_t damage) {
     switch (below(10)) {
     case 0: case 1: b[0] = (uint8_t)below(chance(90) ? 8 : 16); break;
     case 2: case 3: b[0] = (uint8_t)(0x10 | length >> 8), b[1] = (uint8_t)length; break;
-    case 4: case 5: b[0] = (uint8_t)(0x30 | status), b[1] = (uint8_t)ONE_OF(0, 1, 2, 255), b[2] = (uint8_t)ONE_OF(0, 1, 0xF1, 0xF9, any()); break;
+    case 4: case 5: b[0] = (uint8_t)(0x30 | status), b[1] = (uint8_t)ONE_OF(0, 1, 2, 255), b[2] = (uint8_t)ONE_OF(0, 1, 0x7F, 0x80, 0xF0, 0xF1, 0xF9, 0xFA, any()); break;
     default: b[0] = (uint8_t)(0x20 | ((word(t + COUNT) + 1) / 7 + chance(8)) % 16); break;
     }
     if (t[KIND] == 4 && chance(70)) b[0] = (uint8_t)(0x30 | status), n = 3;
@@ -302,19 +302,22 @@ static void all_have(void) {
     for (int k = 1; sides[k]; k++) memcpy(memories[k] + GUARD, mine, on->memory);
 }
 
-/* a transfer within its limits, whatever went before */
+/* a transfer within its limits or just beyond one, whatever went before */
 static void some_transfer(uint8_t *t) {
     uint32_t kind = below(7), size = ONE_OF(8, 9, 13, 14, 100, 507, 508, 8 + below(501)), steps = (size - 7) / 7 + 1, n = 6 + 7 * below(steps);
     uint32_t gap = ONE_OF(0, 100, 900, 1000, 127000), count = kind < 2 ? 0 : kind == 2 ? n : size;
+    if (chance(5)) n += 7;
+    if (chance(5)) gap = ONE_OF(50, 1100, 128000);
+    if (chance(5) && kind > 2) count = size = 7, n = 6;
     memset(t + KIND, 0, TALK_SIZE - KIND);
     t[KIND] = (uint8_t)kind;
     for (uint32_t i = 0; i < count; i++) t[PAYLOAD + i] = (uint8_t)any();
     put_word(t + COUNT, count);
-    if (kind == 2) put_word(t + N, size), t[ASKED] = (uint8_t)below(2);
+    if (kind == 2) put_word(t + N, chance(5) ? ONE_OF(count, 509) : size), t[ASKED] = (uint8_t)below(2);
     if (kind > 2) put_word(t + N, kind == 3 ? 6 : kind == 5 ? n + 7 : n);
-    if (kind == 2 || kind == 4) put_word(t + TIME, ONE_OF(0, 1, 999998, 999999));
-    if (kind >= 5) put_word(t + LEFT, ONE_OF(0, 1, 2, 255)), put_word(t + GAP, gap);
-    if (kind == 6) put_word(t + TIME, ONE_OF(0, gap, below(gap + 1)));
+    if (kind == 2 || kind == 4) put_word(t + TIME, chance(5) ? 1000000 : ONE_OF(0, 1, 999998, 999999));
+    if (kind >= 5) put_word(t + LEFT, chance(5) ? 256 : ONE_OF(0, 1, 2, 255)), put_word(t + GAP, gap);
+    if (kind == 6) put_word(t + TIME, chance(5) ? gap + 1 : ONE_OF(0, gap, below(gap + 1)));
 }
 
 static void some_flight(uint8_t *r, uint32_t talks_wide) {
@@ -339,11 +342,12 @@ static void make(event *e) {
     case 0: r[below(on->region)] = (uint8_t)(chance(50) ? below(8) : any()); break;
     case 1:
         at = ONE_OF(1, 5, TALK + N, TALK + TIME, TALK + LEFT, TALK + GAP, TALK + COUNT, TALK + PATTERN, TALK + FLOW);
-        put_word(r + at, ONE_OF(0, 1, 255, 256, any()));
+        if (chance(50)) at = ONE_OF(OUT + 1, IN + 1, IN + 1 + RECORD, FLIGHT) + 4 * below(6); /* a number of a record */
+        put_word(r + at, ONE_OF(0, 1, 2, 3, 4, 5, 6, 8, 9, 13, 255, 256, 257, 512, 513, any()));
         break;
     case 2:
         at = ONE_OF(0, 9, TALK, TALK + 1, TALK + KIND, TALK + ASKED, OUT, FLYING, OWNER, IN, LOST, LAST);
-        r[at] = (uint8_t)below(chance(80) ? 4 : 256);
+        r[at] = (uint8_t)below(at == LAST ? 0x1C : chance(80) ? 4 : 256);
         break;
     default:
         for (int i = 0; i < 2; i++)
