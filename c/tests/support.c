@@ -10,21 +10,6 @@
 
 uint64_t seed = 1;
 
-uint32_t any(void) {
-    seed ^= seed >> 12;
-    seed ^= seed << 25;
-    seed ^= seed >> 27;
-    return (uint32_t)((seed * 0x2545F4914F6CDD1Dull) >> 32);
-}
-
-uint32_t below(uint32_t n) { return (uint32_t)(((uint64_t)any() * n) >> 32); }
-
-int chance(uint32_t percent) { return below(100) < percent; }
-
-uint32_t one_of(const uint32_t *from, size_t n) { return from[below((uint32_t)n)]; }
-
-#define ONE_OF(...) one_of((const uint32_t[]){__VA_ARGS__}, sizeof((const uint32_t[]){__VA_ARGS__}) / sizeof(uint32_t))
-
 /* ---- lent buffers ---- */
 
 static uint8_t guard_byte(size_t i) { return (uint8_t)(0xA5 ^ i); }

@@ -6,13 +6,7 @@
 #include <stddef.h>
 #include <stdint.h>
 
-/* ---- random numbers ---- */
-
-extern uint64_t seed;
-uint32_t any(void);                            /* 32 bits */
-uint32_t below(uint32_t n);                    /* 0 to n - 1 */
-int chance(uint32_t percent);
-uint32_t one_of(const uint32_t *from, size_t n);
+#include "random.h"
 
 /* ---- a lent buffer: exactly n bytes between guards ---- */
 

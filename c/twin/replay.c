@@ -3,67 +3,18 @@
 
 #include <string.h>
 
+#include "recording.h"
 #include "twin.h"
 
-enum { LONGEST = 32768, RECORD = 36, MOST = 64, BAD = 255, MARK = 2, EDITION = 2 };
-
-typedef struct {
-    const uint8_t *at, *end;
-    int bad;
-} input;
-
-static uint32_t number(input *in) {
-    uint64_t value = 0;
-    for (int shift = 0; shift < 35; shift += 7) {
-        uint8_t group;
-        if (in->at == in->end) break;
-        group = *in->at++;
-        value |= (uint64_t)(group & 0x7F) << shift;
-        if (group & 0x80) continue;
-        if ((group == 0 && shift > 0) || value > 0xFFFFFFFFu) break;
-        return (uint32_t)value;
-    }
-    in->bad = 1;
-    return 0;
-}
-
-static const uint8_t *raw(input *in, uint32_t n) {
-    const uint8_t *p = in->at;
-    if (in->bad || (size_t)(in->end - in->at) < n) {
-        in->bad = 1;
-        return p;
-    }
-    in->at += n;
-    return p;
-}
-
-static uint32_t most(input *in) {
-    uint32_t n = number(in);
-    if (n > MOST) in->bad = 1;
-    return in->bad ? 0 : n;
-}
-
-static uint8_t *put(uint8_t *out, uint32_t v) {
-    for (; v >= 0x80; v >>= 7) *out++ = (uint8_t)(v | 0x80);
-    *out++ = (uint8_t)v;
-    return out;
-}
-
-static uint8_t *put_if_done(uint8_t *out, uint32_t code, uint32_t v) {
-    out = put(out, code);
-    return code ? out : put(out, v);
-}
-
-static uint8_t *put_both(uint8_t *out, uint32_t code, uint32_t v) { return put(put(out, code), v); }
+enum { RECORD = 36 };
 
 /* one event; in->bad where it is a bad one, and then nothing was done */
 static uint8_t *play(uint8_t *m, input *in, uint8_t *out) {
-    static const int numbers[17] = {0, 4, 1, 0, 1, 3, 2, 2, 1, 2, 1, 1, 1, 1, 2, 2, 3};
     uint32_t kind = number(in), a[4] = {0}, n = 0, value = 0, code;
     const uint8_t *p = NULL, *q = NULL;
     uint8_t records[RECORD * MOST];
     if (kind < 1 || kind > 16) in->bad = 1;
-    for (int i = 0; !in->bad && i < numbers[kind]; i++) a[i] = number(in);
+    for (int i = 0; !in->bad && i < numbers_of[kind]; i++) a[i] = number(in);
     if (in->bad) return out;
     if (kind == 5 || kind == 10 || kind == 11) n = most(in);
     if (kind == 5) p = raw(in, n);
@@ -102,7 +53,7 @@ static uint8_t *play(uint8_t *m, input *in, uint8_t *out) {
 
 uint32_t twin_replay(const uint8_t *recording, size_t n, uint8_t *out, size_t room, size_t *length) {
     uint8_t m[TWIN_MEMORY] = {0}, *at = out;
-    int marked = n >= MARK && recording[0] == 0 && recording[1] == EDITION;
+    int marked = is_marked(recording, n);
     input in = {recording, recording + n, n > LONGEST};
     *length = 0;
     if (room < (n > LONGEST ? 2 : 19 * n + 2306)) return 0x04;

@@ -3,6 +3,8 @@
 
 #include <string.h>
 
+#include "common.h"
+
 enum { FILTERS = 10, PERIODICS = 10, WRITTEN = 16, QUEUE = 32, PAIRS = 16, RECORD = 36, ROW = 12 };
 
 /* ---- the memory as a struct of bytes, by docs/LAYOUT.md ---- */
@@ -34,40 +36,6 @@ typedef struct {
 typedef char twin_size_is_right[sizeof(device_t) == TWIN_MEMORY ? 1 : -1];
 
 int twin_trusts = 0, twin_old_rates = 0;
-
-static uint32_t get32(const uint8_t b[4]) {
-    return (uint32_t)b[0] | (uint32_t)b[1] << 8 | (uint32_t)b[2] << 16 | (uint32_t)b[3] << 24;
-}
-
-static void put32(uint8_t b[4], uint32_t v) {
-    b[0] = (uint8_t)v, b[1] = (uint8_t)(v >> 8), b[2] = (uint8_t)(v >> 16), b[3] = (uint8_t)(v >> 24);
-}
-
-static uint32_t identifier(const uint8_t b[4]) {
-    return (uint32_t)b[0] << 24 | (uint32_t)b[1] << 16 | (uint32_t)b[2] << 8 | (uint32_t)b[3];
-}
-
-static int zeros(const void *p, size_t n) {
-    const uint8_t *b = p;
-    uint8_t any = 0;
-    for (size_t i = 0; i < n; i++) any |= b[i];
-    return any == 0;
-}
-
-/* ---- widths ---- */
-
-static int takes(uint32_t flags, int wide) {
-    if (flags & 0x800) return 1;
-    return ((flags & 0x100) != 0) == (wide != 0);
-}
-
-static int in_range(uint32_t id, int wide) { return id <= (wide ? 0x1FFFFFFFu : 0x7FFu); }
-
-/* what a memory may hold, and what connect and set take: 125,000 is retired */
-static int is_rate(uint32_t r) { return r == 125000 || r == 250000 || r == 500000; }
-static int takes_rate(uint32_t r) { return is_rate(r) && (r != 125000 || twin_old_rates); }
-
-static int is_flags(uint32_t f) { return (f & ~(uint32_t)0x900) == 0; }
 
 /* ---- validity: every stored number within its limit ---- */
 
@@ -285,7 +253,7 @@ uint32_t twin_frame(uint8_t *m, size_t len, uint32_t line, uint32_t wide, uint32
     if (wide > 1 || !in_range(id, (int)wide) || n > 8) return 0x0A;
     c = &d->line[line];
     if (!c->open || !takes(get32(c->flags), (int)wide)) return 0;
-    frame[0] = (uint8_t)(id >> 24), frame[1] = (uint8_t)(id >> 16), frame[2] = (uint8_t)(id >> 8), frame[3] = (uint8_t)id;
+    put_identifier(frame, id);
     if (n) memcpy(frame + 4, data, n);
     if (let_in(c, (int)wide, frame, 4 + n)) arrive(c, wide ? 256 : 0, get32(d->clock), frame, 4 + (uint32_t)n);
     return 0;
