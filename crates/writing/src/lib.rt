@@ -9,7 +9,7 @@ ghost use Rattle.machine.specs.Channel.{writeCode, writing};
 ghost use Rattle.machine.specs.Channel.{write as writeOf};
 ghost use Rattle.layout.specs.Promise.{gives, Opened, callOutcome};
 ghost use Rattle.stores.specs.Written.{written, WrittenPart};
-ghost use Rattle.writing.specs.Store.{queued, Stopped};
+ghost use Rattle.writing.specs.Store.{Queued, Stopped};
 
 // The most written records.
 const MOST: u8 = places::MOST_WRITTEN as u8;
@@ -17,7 +17,7 @@ const MOST: u8 = places::MOST_WRITTEN as u8;
 // One message behind those held, clean, where its checks find it good and fewer than 16 are held; its code.
 fn queue(store: &mut [u8], flags: u32, m: &[u8]) -> u32
     requires { ⌜ WrittenPart flags (now store) × (recordSize ≤ length (now m)) ⌝ }
-    ensures { λ c. ⌜ (c ≡ writeCode flags (written flags .get (now (store .entry))) (now (m .entry))) × (now (store .exit) ≡ written flags .put (queued flags (written flags .get (now (store .entry))) (now (m .entry)))) ⌝ }
+    ensures { λ c. ⌜ Queued (written flags) (writeCode flags) (now (store .entry)) (now (m .entry)) c (now (store .exit)) ⌝ }
 {
     let code = message::message_code(m, flags);
     if code != codes::STATUS_NOERROR {
@@ -37,7 +37,7 @@ fn queue(store: &mut [u8], flags: u32, m: &[u8]) -> u32
 // The first n records of a buffer, in order, until one is refused.
 fn queue_all(store: &mut [u8], flags: u32, n: u32, buffer: &[u8]) -> Answer
     requires { ⌜ WrittenPart flags (now store) × (recordSize * n ≤ length (now buffer)) ⌝ }
-    ensures { λ a. ⌜ Stopped flags (writing flags n (now (buffer .entry)) (written flags .get (now (store .entry))) 0) (a .code) (a .value) (now (store .exit)) ⌝ }
+    ensures { λ a. ⌜ Stopped (written flags) (writing flags n (now (buffer .entry)) (written flags .get (now (store .entry))) 0) (a .code) (a .value) (now (store .exit)) ⌝ }
 {
     let mut i = 0;
     while i < n {

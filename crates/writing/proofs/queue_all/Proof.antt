@@ -3,22 +3,26 @@
 use Prim.Native.Nat.{_-_}
 use native.Mathlib.Omega.{arith}
 use Rattle.codec.proofs.Lists.{bytes-of}
-use Rattle.writing.proofs.Writing.{Turn, no-turn, lent-long, turn-stops, turn-more, turn-ends}
+use Rattle.writing.proofs.Loop.{Turn, lent-long, turn-stops, turn-more, turn-ends}
+use Rattle.writing.proofs.Writing.{raw, turn-part, first-turn}
 use borrow.Author.Needs.{needs}
 use Rattle.writing.proofs.queue_all.Statement.{statement}
 use Rattle.writing.proofs.queue_all.Tie as tie
 
 abbrev Inv-loop : tie.InvT-loop
-Inv-loop store₀ flags n buffer i₀ store i = Turn flags n buffer store₀ store i
+Inv-loop store₀ flags n buffer i₀ store i = Turn (raw flags) n buffer store₀ store i
 
 abbrev μ-loop : tie.MeasureT-loop
 μ-loop store₀ flags n buffer i₀ store i = n - i
 
 loop-holds : tie.Need-loop-holds Inv-loop μ-loop
-loop-holds c = let start = c .before .before in no-turn (start .args .n) (start .args .buffer .now) (start .pre .0)
+loop-holds c = let start = c .before .before in first-turn (start .args .n) (start .args .buffer .now) (start .pre .0)
 
 queue-requires : tie.Need-queue-requires Inv-loop μ-loop
-queue-requires c κs = let at = c .before .before .before in (at .loop .inv .part, lent-long (at .loop .inv) (c .before .before .loop-test .taken) (at .before .before .before .pre .1))
+queue-requires c κs = let at = c .before .before .before in (turn-part (at .loop .inv), lent-long (at .loop .inv) (c .before .before .loop-test .taken) (at .before .before .before .pre .1))
+
+same-length : tie.Need-same-length Inv-loop μ-loop
+same-length c = let at = c .before .before .before .before .before .before .before in omega (arith, turn-part (at .loop .inv) .long, at .before .before .before .pre .0 .long)
 
 returns : tie.Need-returns Inv-loop μ-loop
 returns c =
@@ -32,7 +36,7 @@ loop-again c =
     (bytes-of (at .before .before .before .args .buffer .now) (λ i. at .before .shared-slice-known .given i .fits))
 
 same-length-2 : tie.Need-same-length-2 Inv-loop μ-loop
-same-length-2 c = omega (arith, c .before .loop .inv .part .long, c .before .before .before .before .pre .0 .long)
+same-length-2 c = omega (arith, turn-part (c .before .loop .inv) .long, c .before .before .before .before .pre .0 .long)
 
 returns-2 : tie.Need-returns-2 Inv-loop μ-loop
 returns-2 c = turn-ends (c .before .loop .inv) (c .loop-test .left)
@@ -50,7 +54,7 @@ queue-all-spec =
     (λ c. search needs)
     (λ c. search needs)
     queue-requires
-    (λ c. search needs)
+    same-length
     returns
     (λ c. search needs)
     (λ c. search needs)
