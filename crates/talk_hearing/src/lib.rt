@@ -6,7 +6,7 @@ ghost use Prim.Native.Nat.{ℕ, _+_, _%_, _≤_, _<_, min};
 ghost use lib.ListN.{length};
 ghost use Rattle.iso.specs.Limits.{mostPayload};
 ghost use Rattle.iso.specs.Iso.{Talk, gapOf, numberAfter, onSingle, onFirst, onConsecutive, becomes, onFlowOf, listening};
-ghost use Rattle.talk_hearing.specs.Meaning.{Meant, Conversing, Sized};
+ghost use Rattle.talk_hearing.specs.Meaning.{Meant, Room, Sized};
 use talk_head::Head;
 
 // Kinds of a head.
@@ -100,7 +100,7 @@ fn least(a: usize, b: usize) -> usize
 // A single frame: a message of one to seven bytes, if they are there; a reception ends.
 fn single(h: Head, bytes: &[u8]) -> Means
     requires { ⌜ (0 < length (now bytes)) × (h .kind ≤ 2) ⌝ }
-    ensures { λ r. ⌜ ((held : ℕ) (same : Bool) → Meant r h held same (now (bytes .entry)) (λ t c. onSingle t c (now (bytes .entry)))) ⌝ }
+    ensures { λ r. ⌜ ((held : ℕ) (same : Bool) → Meant r h held same (now (bytes .entry)) (λ t c. onSingle t c (now (bytes .entry)))) × ((held : ℕ) → Room r held (now (bytes .entry))) ⌝ }
 {
     let n = low(bytes[0]);
     if n < 1 {
@@ -121,7 +121,7 @@ fn single(h: Head, bytes: &[u8]) -> Means
 // A first frame: nothing where pattern equals flow, or where it is short or tells less than a segmented message has; else a reception, or an overflow.
 fn first(same: bool, bytes: &[u8]) -> Means
     requires { ⌜ 0 < length (now bytes) ⌝ }
-    ensures { λ r. ⌜ ((h : Head) (held : ℕ) → Meant r h held same (now (bytes .entry)) (λ t c. onFirst t c (now (bytes .entry)))) ⌝ }
+    ensures { λ r. ⌜ ((h : Head) (held : ℕ) → Meant r h held same (now (bytes .entry)) (λ t c. onFirst t c (now (bytes .entry)))) × ((held : ℕ) → Room r held (now (bytes .entry))) ⌝ }
 {
     if same {
         return Means::Nothing;
@@ -149,7 +149,7 @@ fn first(same: bool, bytes: &[u8]) -> Means
 // A consecutive frame of a reception: nothing where it is short, its end where its number is another; else more bytes, or the last.
 fn next(h: Head, held: usize, bytes: &[u8]) -> Means
     requires { ⌜ (0 < length (now bytes)) × (h .kind ≡ 2) × Sized h held ⌝ }
-    ensures { λ r. ⌜ ((same : Bool) → Meant r h held same (now (bytes .entry)) (λ t c. onConsecutive t c (c .transfer) (now (bytes .entry)))) ⌝ }
+    ensures { λ r. ⌜ ((same : Bool) → Meant r h held same (now (bytes .entry)) (λ t c. onConsecutive t c (c .transfer) (now (bytes .entry)))) × Room r held (now (bytes .entry)) ⌝ }
 {
     let missing = h.n as usize - held;
     if bytes.len() <= least(IN_FRAME, missing) {
@@ -174,7 +174,7 @@ fn next(h: Head, held: usize, bytes: &[u8]) -> Means
 // A flow frame: nothing where none is awaited or it is short; else go on, wait, or an end.
 fn flow(h: Head, bytes: &[u8]) -> Means
     requires { ⌜ 0 < length (now bytes) ⌝ }
-    ensures { λ r. ⌜ ((held : ℕ) (same : Bool) → Meant r h held same (now (bytes .entry)) (λ t c. becomes (onFlowOf (c .transfer) (now (bytes .entry))) [])) ⌝ }
+    ensures { λ r. ⌜ ((held : ℕ) (same : Bool) → Meant r h held same (now (bytes .entry)) (λ t c. becomes (onFlowOf (c .transfer) (now (bytes .entry))) [])) × ((held : ℕ) → Room r held (now (bytes .entry))) ⌝ }
 {
     if h.kind != AWAITS {
         return Means::Nothing;
@@ -209,7 +209,7 @@ fn flow(h: Head, bytes: &[u8]) -> Means
 // A frame, by the high half of its first byte; a conversation that transmits hears flow frames alone.
 pub fn meaning(h: Head, held: usize, same: bool, bytes: &[u8]) -> Means
     requires { ⌜ Sized h held ⌝ }
-    ensures { λ r. ⌜ Meant r h held same (now (bytes .entry)) (λ t c. listening t c (now (bytes .entry))) ⌝ }
+    ensures { λ r. ⌜ Meant r h held same (now (bytes .entry)) (λ t c. listening t c (now (bytes .entry))) × Room r held (now (bytes .entry)) ⌝ }
 {
     if bytes.len() < 1 {
         return Means::Nothing;
