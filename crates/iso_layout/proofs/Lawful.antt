@@ -116,7 +116,7 @@ stage-back b n (awaits run) = refl
 stage-back b n (flies l g) = refl
 stage-back b n (sends l g w) = refl
 
-transfer-back : (x : Transfer) → transferBack (transferParts x) ≡ x
+pub transfer-back : (x : Transfer) → transferBack (transferParts x) ≡ x
 transfer-back idle = refl
 transfer-back refuses = refl
 transfer-back (receives r) = refl
@@ -138,7 +138,7 @@ nil-is : (b : List ℕ) → T (eqb (length b) 0) → _≡_ {A = List ℕ} [] b
 nil-is [] t = refl
 nil-is (x ∷ b) t = absurd (let z = eqb→eq (suc (length b)) 0 t in omega arith)
 
-kind-there : (k n t l g : ℕ) (w : Bool) (b : List ℕ) → T (kindFits k n t l g w b) → transferParts (transferOn k n t l g w b) ≡ transferred k n t l g w b
+pub kind-there : (k n t l g : ℕ) (w : Bool) (b : List ℕ) → T (kindFits k n t l g w b) → transferParts (transferOn k n t l g w b) ≡ transferred k n t l g w b
 kind-there zero n t l g w b h =
     same-parts (zero-is n (search (left, right) depth 8)) (zero-is t (search (left, right) depth 8)) (zero-is l (search (left, right) depth 8)) (zero-is g (search (left, right) depth 8))
     (no-is w (search (left, right) depth 8)) (nil-is b (search (left, right) depth 8))
