@@ -11,29 +11,16 @@ use Rattle.codec.specs.Plain.{if_then_else_, within, member, allZero}
 use Rattle.codec.specs.Word.{wordAt}
 use Rattle.codec.specs.Code.{Code, byte, word32, both, via, such, many}
 use Rattle.codec.proofs.Tests.{left, right, T-true, and-true, and-false, between, below, above}
-use Rattle.codec.proofs.Word.{word-part}
 use Rattle.machine.specs.Limits.{mostData, rxStatusIn, txFlagsIn, timestampIn, sizeIn, extraIndexIn, dataIn}
 use Rattle.machine.specs.Message.{bit, idOf, idLimit, takes, Rec}
 use Rattle.layout.specs.Record.{widthFits}
 use Rattle.iso.specs.Limits.{isoProtocol, idSize, isoData, isoRecordSize, leastMessage}
 use Rattle.iso_layout.specs.Record.{IsoParts, indication, extraIs, isoBack, isoFits, rec536, isoOutgoing, isoIncoming, messageCell, frameCell, heardCell}
 use Rattle.iso_layout.proofs.Sizes.{message-size, heard-size}
-use Rattle.stored_records.proofs.Parts.{Bytes, less, row-valid, row-got, behind-word}
+use Rattle.stored_records.proofs.Parts.{Bytes, less, row-valid, row-got}
 use Rattle.stored_records.proofs.Records.{id-take}
-use Rattle.iso_stored.specs.Held.{IsRecord, held}
-
--- ---- a number, then what follows it
-
-module _ {B : Type 0} (c : Code B) (k j : ℕ) (m : List ℕ) (e : k + 4 ≡ j) where
-  rest-at : drop 4 (drop k m) ≡ drop j m
-  rest-at = drop-drop 4 k m ∙ ap (λ (n : ℕ). drop n m) e
-
-  pub number-got : both word32 c .get (drop k m) ≡ (wordAt k m, c .get (drop j m))
-  unfolding both word32
-  number-got = λ i. (word-part k m i, c .get (rest-at i))
-
-  pub number-valid : Bytes m → both word32 c .valid (drop k m) ≡ c .valid (drop j m)
-  number-valid t = behind-word c (drop k m) (less k m t) ∙ ap (c .valid) rest-at
+use Rattle.iso_stored.specs.Held.{held}
+use Rattle.iso_stored.proofs.Rows.{number-got, number-valid}
 
 -- ---- a record, whatever it waits for
 
