@@ -43,7 +43,7 @@ first-word : {B : Type 0} (c : Code B) (m : List ℕ) → both word32 c .get m .
 unfolding both word32
 first-word c m = word-part 0 m
 
-id-take : (k : ℕ) (x : List ℕ) → 4 ≤ k → idOf (take k x) ≡ idOf x
+pub id-take : (k : ℕ) (x : List ℕ) → 4 ≤ k → idOf (take k x) ≡ idOf x
 unfolding idOf
 id-take k x h =
     let g : (n : ℕ) → n < 4 → getD (take k x) n 0 ≡ getD x n 0 = λ n b. getD-take k x n 0 (omega arith) in

@@ -6,7 +6,7 @@ use integers::word_at;
 use octets::all_zero;
 use zeros::eight_end;
 ghost use mathlib.Core.Path.{_≡_};
-ghost use Prim.Native.Nat.{_+_, _*_};
+ghost use Prim.Native.Nat.{_+_, _*_, _≤_};
 ghost use lib.ListN.{length, drop};
 ghost use Rattle.codec.specs.Code.{upTo};
 ghost use Rattle.machine.specs.Limits.{recordSize, dataIn};
@@ -40,9 +40,9 @@ fn plain_record(s: &[u8]) -> bool
         & eight_end(s, BEHIND_ID, data)
 }
 
-// Is a record's identifier in the range of its width, and does the connection take that width?
-fn width_fits(s: &[u8], flags: u32, wide: bool) -> bool
-    requires { ⌜ length (now s) ≡ recordSize ⌝ }
+// Is a record's identifier in the range of its width, and does the connection take that width? Of a record with any number of data bytes.
+pub fn width_fits(s: &[u8], flags: u32, wide: bool) -> bool
+    requires { ⌜ dataIn + 4 ≤ length (now s) ⌝ }
     ensures { λ r. ⌜ r ≡ widthFits flags wide (drop dataIn (now (s .entry))) ⌝ }
 {
     (id_at(s, places::DATA_IN) <= id_limit(wide)) & takes_width(flags, wide)
