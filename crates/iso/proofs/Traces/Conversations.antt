@@ -26,11 +26,11 @@ pub twoConversations : Happens
     ∷ call 5 (write 2 (lent6 0 0x241 (count 1 8) ++ lent6 0 0x242 (0xBB ∷ []))) ⇒ gives 2
     ∷ took 0x241 (0x10 ∷ 8 ∷ count 1 6)
     ∷ call 5 sent ⇒ done
+    ∷ tookNone
+    ∷ frame 0 0 0x641 (0x30 ∷ 0 ∷ 0 ∷ []) ⇒ done
     ∷ frame 0 0 0x642 (0x10 ∷ 8 ∷ count 17 6) ⇒ done
     ∷ took 0x242 (0x30 ∷ 0 ∷ 0 ∷ [])
     ∷ call 5 sent ⇒ done
-    ∷ tookNone
-    ∷ frame 0 0 0x641 (0x30 ∷ 0 ∷ 0 ∷ []) ⇒ done
     ∷ took 0x241 (0x21 ∷ 7 ∷ 8 ∷ [])
     ∷ call 5 sent ⇒ done
     ∷ took 0x242 (1 ∷ 0xBB ∷ [])
@@ -70,7 +70,7 @@ unfolding answered
 halfDuplex = asTold refl
 
 -- the other conversation is not touched; stop filter drops the transmission, without TxDone, though its last frame is in flight; the next message waits
--- until its own conversation has received
+-- until its own conversation has received, and goes out there
 pub stoppedSending : Happens
     (connect 0 6 0 500000 ⇒ gives 5
     ∷ talk 5 0 0x641 0x241 ⇒ gives 1
@@ -89,7 +89,11 @@ pub stoppedSending : Happens
     ∷ tookNone
     ∷ frame 0 0 0x642 (0x21 ∷ 7 ∷ 8 ∷ []) ⇒ done
     ∷ took 0x242 (0x10 ∷ 8 ∷ count 1 6)
-    ∷ call 5 (read 4 (room 2144)) ⇒ says 0x09 3 (got6 0 0 0x642 (0x66 ∷ []) ++ told6 2 0 0x642 ++ got6 0 0 0x642 (count 1 8) ++ room 536)
+    ∷ call 5 sent ⇒ done
+    ∷ frame 0 0 0x642 (0x30 ∷ 0 ∷ 0 ∷ []) ⇒ done
+    ∷ took 0x242 (0x21 ∷ 7 ∷ 8 ∷ [])
+    ∷ call 5 sent ⇒ done
+    ∷ call 5 (read 5 (room 2680)) ⇒ says 0x09 4 (got6 0 0 0x642 (0x66 ∷ []) ++ told6 2 0 0x642 ++ got6 0 0 0x642 (count 1 8) ++ told6 9 0 0x242 ++ room 536)
     ∷ [])
 unfolding answered
 stoppedSending = asTold refl

@@ -57,6 +57,20 @@ pub segmented : Happens
 unfolding answered
 segmented = asTold refl
 
+-- a partner that is quicker than the driver: its frames are received before the go-on was taken, which still waits
+pub quickPartner : Happens
+    (connect 0 6 0 500000 ⇒ gives 5
+    ∷ talk 5 0 0x641 0x241 ⇒ gives 1
+    ∷ frame 0 0 0x641 (0x10 ∷ 0x0E ∷ count 1 6) ⇒ done
+    ∷ frame 0 0 0x641 (0x21 ∷ count 7 7) ⇒ done
+    ∷ took 0x241 (0x30 ∷ 0 ∷ 0 ∷ [])
+    ∷ call 5 sent ⇒ done
+    ∷ frame 0 0 0x641 (0x22 ∷ 0x0E ∷ []) ⇒ done
+    ∷ call 5 (read 2 (room 1072)) ⇒ says 0x00 2 (told6 2 0 0x641 ++ got6 0 0 0x641 (count 1 14))
+    ∷ [])
+unfolding answered
+quickPartner = asTold refl
+
 -- the number after 6 + 7 k bytes: 1, 2, .. 15, 0, 1; and after 6 + 71 * 7 of 508 it is 8
 pub numbers : map numberAfter (6 ∷ 13 ∷ 97 ∷ 104 ∷ 111 ∷ 118 ∷ (6 + 71 * 7) ∷ []) ≡ 1 ∷ 2 ∷ 14 ∷ 15 ∷ 0 ∷ 1 ∷ 8 ∷ []
 unfolding numberAfter
@@ -116,7 +130,7 @@ pub overflowStays : Happens
 unfolding answered
 overflowStays = asTold refl
 
--- example 5: the second of a reception, at 999,999 and at 1,000,000, from its first frame, the sent of its go-on and each good frame; a refused
+-- example 5: the second of a reception, at 1,000,000 and at 999,999, from its first frame, the sent of its go-on and each good frame; a refused
 -- advance is no time
 pub second : Happens
     (connect 0 6 0 500000 ⇒ gives 5
@@ -126,17 +140,21 @@ pub second : Happens
     ∷ took 0x241 (0x30 ∷ 0 ∷ 0 ∷ [])
     ∷ call 5 sent ⇒ done
     ∷ advance 999999 ⇒ done
-    ∷ advance 1000001 ⇒ code 0x0B
     ∷ frame 0 0 0x641 (0x21 ∷ count 7 7) ⇒ done
     ∷ advance 1000000 ⇒ done
     ∷ frame 0 0 0x641 (0x22 ∷ 0x0E ∷ []) ⇒ done
     ∷ call 5 (read 2 (room 1072)) ⇒ says 0x09 1 (told6 2 0 0x641 ++ room 536)
     ∷ frame 0 0 0x641 (0x10 ∷ 0x0E ∷ count 1 6) ⇒ done
     ∷ advance 999999 ⇒ done
-    ∷ frame 0 0 0x641 (0x21 ∷ count 7 7) ⇒ done
+    ∷ took 0x241 (0x30 ∷ 0 ∷ 0 ∷ [])
+    ∷ call 5 sent ⇒ done
     ∷ advance 999999 ⇒ done
+    ∷ frame 0 0 0x641 (0x21 ∷ count 7 7) ⇒ done
+    ∷ tookNone
+    ∷ advance 999999 ⇒ done
+    ∷ advance 1000001 ⇒ code 0x0B
     ∷ frame 0 0 0x641 (0x22 ∷ 0x0E ∷ []) ⇒ done
-    ∷ call 5 (read 2 (room 1072)) ⇒ says 0x00 2 (told6 2 2999998 0x641 ++ got6 0 4999996 0x641 (count 1 14))
+    ∷ call 5 (read 2 (room 1072)) ⇒ says 0x00 2 (told6 2 2999998 0x641 ++ got6 0 5999995 0x641 (count 1 14))
     ∷ frame 0 0 0x641 (0x10 ∷ 0x0E ∷ count 1 6) ⇒ done
     ∷ advance 500000 ⇒ done
     ∷ advance 500000 ⇒ done
