@@ -12,11 +12,11 @@
 enum { STACK = 131072, FEW = 32 };
 
 static uint8_t idle[TRAWL_MEMORY], full[TRAWL_MEMORY], broken[TRAWL_MEMORY], box[TRAWL_MEMORY];
-static uint8_t message[TRAWL_RECORD], many[40 * TRAWL_RECORD], telegram[TRAWL_TELEGRAM], eight[8], out[TRAWL_REPLAY_ROOM(FEW)];
+static uint8_t message[TRAWL_RECORD], many[40 * TRAWL_RECORD], telegram[TRAWL_TELEGRAM], eight[8], out[2 * TRAWL_EVENT_ROOM];
 static const uint8_t recording[] = {1, 0, 5, 0, 0xA0, 0xC2, 0x1E, 4, 1, 5, 0, 0, 1, 2, 1, 2, 11, 1, 1, 12, 1, 13, 1, 14, 1, 1, 15, 1, 1, 16, 1, 3, 1};
 static struct trawl_pair pairs[TRAWL_PAIRS];
 static uint32_t number;
-static size_t length;
+static size_t length, at;
 
 #define BOX box, sizeof box
 
@@ -45,7 +45,7 @@ static void do_last_error(void) { trawl_last_error(BOX, 1, &number); }
 static void do_read_telegram(void) { trawl_read_telegram(0, 0, (const uint8_t *)"\xA0\x0F\x8A\xFF\x32\xFF", 6, telegram, sizeof telegram); }
 static void do_write_telegram(void) { trawl_write_telegram(telegram, sizeof telegram, eight, 8, &number); }
 static void do_time(void) { number = trawl_time(0x8A); }
-static void do_replay(void) { trawl_replay(recording, FEW, out, sizeof out, &length); }
+static void do_replay(void) { at = 0, trawl_replay(BOX, recording, FEW, &at, out, sizeof out, &length); }
 
 static const struct {
     const char *name;

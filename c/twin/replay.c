@@ -5,7 +5,7 @@
 
 #include "twin.h"
 
-enum { LONGEST = 32768, RECORD = 36, MOST = 64, BAD = 255, MARK = 2, EDITION = 2 };
+enum { LONGEST = 32768, RECORD = 36, MOST = 64, EVENT_ROOM = 2 + MOST * RECORD, BAD = 255, MARK = 2, EDITION = 2 };
 
 typedef struct {
     const uint8_t *at, *end;
@@ -105,11 +105,11 @@ uint32_t twin_replay(const uint8_t *recording, size_t n, uint8_t *out, size_t ro
     int marked = n >= MARK && recording[0] == 0 && recording[1] == EDITION;
     input in = {recording, recording + n, n > LONGEST};
     *length = 0;
-    if (room < (n > LONGEST ? 2 : 19 * n + 2306)) return 0x04;
     if (marked) in.at += MARK;
     twin_trusts = 1, twin_old_rates = !marked;
-    while (!in.bad && in.at < in.end) at = play(m, &in, at);
+    while (!in.bad && in.at < in.end && room - (size_t)(at - out) >= EVENT_ROOM) at = play(m, &in, at);
     twin_trusts = 0, twin_old_rates = 0;
+    if (room - (size_t)(at - out) < EVENT_ROOM) return 0x04;
     if (in.bad) at = put(at, BAD);
     *length = (size_t)(at - out);
     return 0;
