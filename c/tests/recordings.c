@@ -140,7 +140,7 @@ static size_t both(size_t n) {
     memset(box, 0, sizeof box);
     if (one_piece(n, &at, LEAST + below(LEAST), &length) != 0) differs("the code", n);
     refused(0x04, n, at, below(LEAST));
-    box[TRAWL_MEMORY - 1] = 9;
+    box[4] = 9; /* the open mark of channel 1: neither 0 nor 1 */
     refused(0x1A, n, at, chance(50) ? LEAST : below(LEAST));
     replays++, output += m;
     return m;

@@ -1,5 +1,5 @@
-/* How much stack each call takes: `stack [MOST [MOST-OF-REPLAY]]`. Each call runs on a painted stack of its own, on a box that is idle, full and
- * broken; the deepest byte that was written counts, less what an empty function takes. With numbers it fails where a call takes more. */
+/* How much stack each call takes: `stack [MOST]`. Each call runs on a painted stack of its own, on a box that is idle, full and
+ * broken; the deepest byte that was written counts, less what an empty function takes. With a number it fails where a call takes more. */
 #define _XOPEN_SOURCE 700
 #include <stdio.h>
 #include <stdlib.h>
@@ -99,7 +99,7 @@ static void boxes(void) {
 
 int main(int argc, char **argv) {
     static uint8_t *const states[3] = {idle, full, broken};
-    size_t most = 0, of_replay = 0, base, k;
+    size_t most = 0, base, k;
     boxes();
     base = depth(nothing);
     for (k = 0; k < sizeof calls / sizeof *calls; k++) {
@@ -112,11 +112,9 @@ int main(int argc, char **argv) {
             if (d > deepest) deepest = d;
         }
         if (argc == 1) printf("%-16s %5lu\n", calls[k].name, (unsigned long)deepest);
-        if (calls[k].call == do_replay) of_replay = deepest;
-        else if (deepest > most) most = deepest;
+        if (deepest > most) most = deepest;
     }
-    printf("stack: %lu bytes at most, %lu of a replay\n", (unsigned long)most, (unsigned long)of_replay);
+    printf("stack: %lu bytes at most\n", (unsigned long)most);
     if (argc > 1 && most > strtoul(argv[1], NULL, 10)) return 1;
-    if (argc > 2 && of_replay > strtoul(argv[2], NULL, 10)) return 1;
     return 0;
 }
