@@ -43,8 +43,8 @@ extern "C" {
 
 /* The version of this header and of the archive built from the same sources. The first number changes when a program or a kept memory that was
  * good may be so no more, the second when something is added, the third with everything else. TRAWL_VERSION is for comparing. */
-#define TRAWL_VERSION_MAJOR 3
-#define TRAWL_VERSION_MINOR 1
+#define TRAWL_VERSION_MAJOR 4
+#define TRAWL_VERSION_MINOR 0
 #define TRAWL_VERSION_PATCH 0
 #define TRAWL_VERSION (TRAWL_VERSION_MAJOR * 10000 + TRAWL_VERSION_MINOR * 100 + TRAWL_VERSION_PATCH)
 
@@ -410,17 +410,25 @@ uint32_t trawl_time(uint8_t byte);
 
 /* ---- recordings ---- */
 
-/* The bytes that a buffer has to have for the replay of a recording of n bytes. */
-#define TRAWL_REPLAY_ROOM(n) ((size_t)(n) > 32768u ? (size_t)2u : 19u * (size_t)(n) + 2306u)
+/* The most bytes that the answer to one event takes: what a buffer for a piece of a replay has to have at least. */
+#define TRAWL_EVENT_ROOM 2306u
 
-/* Replays a recording from power-on into a buffer of at least TRAWL_REPLAY_ROOM(recording_length) bytes, else 0x04. Gives how many bytes the
- * output has; a bad event ends it with the number 255, and a recording of more than 32,768 bytes counts as one. The replay has a memory of its
- * own, TRAWL_MEMORY bytes on the stack.
+/* Plays a piece of a recording on a memory, from the place that *at says, and writes the answers to the start of a buffer: event by event, until
+ * the recording ends or fewer than TRAWL_EVENT_ROOM bytes of the buffer are free. Gives how many bytes it wrote, and *at becomes the place at
+ * which it left off. A replay begins with a memory just switched on and *at 0, and calls until *at is recording_length:
+ *
+ *   trawl_power_on(box, sizeof box), at = 0;
+ *   while (at < n && trawl_replay(box, sizeof box, recording, n, &at, out, sizeof out, &length) == 0) fwrite(out, 1, length, stdout);
+ *
+ * The pieces joined are the same bytes whatever room is lent to each, and each moves *at. A bad event ends the recording with the number 255, and
+ * *at is at its end; a recording of more than 32,768 bytes counts as one bad event. At the end or past it nothing is played. 0x1A for a broken
+ * memory, then 0x04 for a buffer under TRAWL_EVENT_ROOM bytes: nothing changes, *at neither, and the length is 0.
  *
  * A recording that begins with the bytes 00 02 (event 0 and its edition, 2) is replayed with the rates that the calls take; one that doesn't is
  * from before, and connect and set take 125000 in it as well. The two bytes have no answer and count in the 32,768. Event 0 anywhere else, or
  * another edition, is a bad event. */
-uint32_t trawl_replay(const uint8_t *recording, size_t recording_length, uint8_t *out, size_t out_length, size_t *length);
+uint32_t trawl_replay(uint8_t *memory, size_t memory_length, const uint8_t *recording, size_t recording_length, size_t *at, uint8_t *out,
+                      size_t out_length, size_t *length);
 
 /* ---- J2534-1's names without the prefix ---- */
 

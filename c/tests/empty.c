@@ -27,9 +27,9 @@ static void must(int true_, const char *what) {
      must((call) == (code) && number == (want) && memcmp(before, box, sizeof box) == 0, #call))
 
 int main(void) {
-    static uint8_t record[TRAWL_RECORD], mask[TRAWL_RECORD], telegram[TRAWL_TELEGRAM], room[TRAWL_REPLAY_ROOM(0)];
+    static uint8_t record[TRAWL_RECORD], mask[TRAWL_RECORD], telegram[TRAWL_TELEGRAM], room[TRAWL_EVENT_ROOM];
     uint32_t v;
-    size_t length = 77;
+    size_t length = 77, at = 0;
 
     must(trawl_valid(NULL, 0) == 0, "valid");
     NONE_ALONE(trawl_power_on(NULL, 0));
@@ -93,9 +93,10 @@ int main(void) {
     v = 77, must(trawl_write_telegram(NULL, 0, NULL, 0, &v) == 0x04 && v == 0, "no telegram, no buffer");
     v = 77, must(trawl_write_telegram(telegram, sizeof telegram, NULL, 0, &v) == 0x04 && v == 0, "no buffer");
     v = 77, must(trawl_write_telegram(NULL, 0, room, sizeof room, &v) == 0x04 && v == 0, "no telegram");
-    must(trawl_replay(NULL, 0, room, sizeof room, &length) == 0 && length == 0, "an empty recording");
-    length = 77, must(trawl_replay(NULL, 0, NULL, 0, &length) == 0x04 && length == 0, "an empty recording into nothing");
-    length = 77, must(trawl_replay((const uint8_t *)"\x03", 1, NULL, 0, &length) == 0x04 && length == 0, "a recording into nothing");
+    must(trawl_replay(box, sizeof box, NULL, 0, &at, room, sizeof room, &length) == 0 && length == 0 && at == 0, "an empty recording");
+    length = 77, must(trawl_replay(box, sizeof box, NULL, 0, &at, NULL, 0, &length) == 0x04 && length == 0, "an empty recording into nothing");
+    length = 77, must(trawl_replay(box, sizeof box, (const uint8_t *)"\x03", 1, &at, NULL, 0, &length) == 0x04 && length == 0, "a recording into nothing");
+    length = 77, must(trawl_replay(NULL, 0, NULL, 0, &at, NULL, 0, &length) == 0x1A && length == 0 && at == 0, "no memory");
     printf("NULL with length 0: %lu calls answered as the header says\n", held);
     return 0;
 }

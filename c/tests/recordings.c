@@ -1,5 +1,5 @@
-/* Replays, the core against the twin: `recordings [SEED [ROUNDS]]`. Recordings of random events, with and without an edition, whole and damaged,
- * into buffers that are exactly long enough between guard bytes, and into buffers that are too short. */
+/* Replays, the core against the twin: `recordings [SEED [ROUNDS]]`. Recordings of random events, with and without an edition, whole and damaged:
+ * the core's in pieces of several sizes, the smallest too, each into a buffer between guard bytes; joined they are the twin's whole replay. */
 #include <stdio.h>
 #include <stdlib.h>
 #include <string.h>
@@ -8,11 +8,11 @@
 #include "../twin/replay.h"
 #include "support.h"
 
-enum { LONGEST = 32768, FULL = TRAWL_REPLAY_ROOM(LONGEST) };
+enum { LONGEST = 32768, LEAST = TRAWL_EVENT_ROOM, WHOLE = 1 << 20 };
 
-static uint8_t recording[LONGEST + 8], core_room[GUARD + FULL + GUARD], twin_room[GUARD + FULL + GUARD];
-static uint8_t *const core = core_room + GUARD, *const twin = twin_room + GUARD;
-static unsigned long replays, marked, events, output;
+static uint8_t recording[LONGEST + 8], core_room[GUARD + WHOLE + GUARD], twin[WHOLE], box[TRAWL_MEMORY], before[TRAWL_MEMORY];
+static uint8_t *const core = core_room + GUARD;
+static unsigned long replays, pieces, marked, events, output;
 
 static void differs(const char *what, size_t n) {
     FILE *f = fopen("differs.rec", "wb");
@@ -90,30 +90,67 @@ static int is_guarded(const uint8_t *room, size_t n) {
     return 1;
 }
 
-static void both(size_t n, size_t room) {
-    uint32_t a, b;
-    size_t x = 77, y = 77;
-    memset(core, 0x55, room), memset(twin, 0x55, room);
+/* one piece from a place on, into a buffer of this size: the bytes behind what it wrote stay, and so do the guards */
+static uint32_t one_piece(size_t n, size_t *at, size_t room, size_t *length) {
+    uint32_t code;
+    memset(core, 0x55, room);
     guard(core_room, room);
-    a = trawl_replay(recording, n, core, room, &x);
-    b = twin_replay(recording, n, twin, room, &y);
-    if (a != b) differs("the code", n);
-    if (x != y) differs("the length", n);
-    if (memcmp(core, twin, x)) differs("the output", n);
-    for (size_t i = x; i < room; i++)
+    *length = 77;
+    code = trawl_replay(box, sizeof box, recording, n, at, core, room, length);
+    if (*length > room) differs("the length", n);
+    for (size_t i = *length; i < room; i++)
         if (core[i] != 0x55) differs("bytes behind the output", n);
     if (!is_guarded(core_room, room)) differs("guard bytes", n);
-    replays++, output += x;
+    return code;
+}
+
+/* a piece that is refused: nothing changes, and the place neither */
+static void refused(uint32_t code, size_t n, size_t at, size_t room) {
+    size_t place = at, length;
+    memcpy(before, box, sizeof box);
+    if (one_piece(n, &place, room, &length) != code) differs("the code of a piece that is refused", n);
+    if (place != at || length != 0 || memcmp(before, box, sizeof box)) differs("a piece that is refused", n);
+}
+
+/* the pieces of this size, joined, are the whole, m bytes; each moves the place */
+static void in_pieces(size_t n, size_t m, size_t room) {
+    size_t at = 0, total = 0, length, from;
+    memset(box, 0, sizeof box);
+    while (at < n) {
+        from = at;
+        if (one_piece(n, &at, room, &length) != 0) differs("the code", n);
+        if (at <= from || at > n) differs("the place", n);
+        if (length > m - total || memcmp(core, twin + total, length)) differs("the output", n);
+        if (at < n && room - length >= LEAST) differs("a piece that left off with room", n);
+        total += length, pieces++;
+    }
+    if (total != m) differs("the length", n);
+    if (one_piece(n, &at, room, &length) != 0 || at != n || length != 0) differs("a piece at the end", n);
+    at = n + 5;
+    if (one_piece(n, &at, room, &length) != 0 || at != n + 5 || length != 0) differs("a piece past the end", n);
+}
+
+/* both replay the first n bytes: the core in pieces of the least size, of some other and of one that takes all */
+static size_t both(size_t n) {
+    size_t m = 77, at = 0, length;
+    if (twin_replay(recording, n, twin, sizeof twin, &m)) differs("no room for the twin's whole replay", n);
+    in_pieces(n, m, LEAST);
+    in_pieces(n, m, LEAST + below(3 * LEAST));
+    in_pieces(n, m, m + LEAST);
+    memset(box, 0, sizeof box);
+    if (one_piece(n, &at, LEAST + below(LEAST), &length) != 0) differs("the code", n);
+    refused(0x04, n, at, below(LEAST));
+    box[4] = 9; /* the open mark of channel 1: neither 0 nor 1 */
+    refused(0x1A, n, at, chance(50) ? LEAST : below(LEAST));
+    replays++, output += m;
+    return m;
 }
 
 /* ---- editions ---- */
 
 /* both replay the first n bytes, and write these */
 static void writes(size_t n, const char *expected, size_t m) {
-    size_t length;
-    both(n, TRAWL_REPLAY_ROOM(n));
-    trawl_replay(recording, n, core, FULL, &length);
-    if (length != m || memcmp(core, expected, m)) differs("not what was worked out", n);
+    if (both(n) != m || memcmp(twin, expected, m)) differs("not what was worked out", n);
 }
 
 /* a connect with 125,000, a connect with 500,000 and a set of 125,000, behind the first n bytes */
@@ -139,10 +176,8 @@ static void editions(void) {
     for (int with = 0; with < 2; with++) {
         memset(recording, CLOSE, sizeof recording);
         if (with) mark(2);
-        for (n = LONGEST - 2; n <= LONGEST + 3; n++) both(n, n > LONGEST ? 2 : FULL);
-        both(LONGEST + 1, 1);
-        trawl_replay(recording, LONGEST, core, FULL, &n);
-        if (n != LONGEST - (with ? 2u : 0u)) differs("the mark's bytes count and write nothing", LONGEST);
+        for (n = LONGEST - 2; n <= LONGEST + 3; n++)
+            if (both(n) != (n > LONGEST ? 2u : n - (with ? 2u : 0u))) differs("the mark's bytes count and write nothing", n);
     }
 }
 
@@ -154,15 +189,14 @@ int main(int argc, char **argv) {
     if (rounds == 0) rounds = 1;
     for (uint32_t r = 0; r < 400 * rounds; r++) {
         n = some_recording(chance(10) ? LONGEST : 40 + below(4000), (int)(r % 4) * 5);
-        both(n, TRAWL_REPLAY_ROOM(n));
-        if (n > 0) both(n, below((uint32_t)TRAWL_REPLAY_ROOM(n)));
-        both(below((uint32_t)n + 1), TRAWL_REPLAY_ROOM(n)); /* cut short */
+        both(n);
+        both(below((uint32_t)n + 1)); /* cut short */
         for (uint32_t k = 1 + below(3); k > 0; k--) recording[below((uint32_t)n)] = (uint8_t)any();
-        both(n, TRAWL_REPLAY_ROOM(n));
+        both(n);
     }
     editions();
-    both(0, TRAWL_REPLAY_ROOM(0));
-    printf("replays agree: %lu recordings, %lu made with the mark of edition 2, of about %lu events, %lu bytes of output\n", replays, marked, events,
-           output);
+    both(0);
+    printf("replays agree: %lu recordings, %lu made with the mark of edition 2, of about %lu events, %lu bytes of output, in %lu pieces\n", replays,
+           marked, events, output, pieces);
     return 0;
 }

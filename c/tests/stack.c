@@ -1,5 +1,5 @@
-/* How much stack each call takes: `stack [MOST [MOST-OF-REPLAY]]`. Each call runs on a painted stack of its own, on a box that is idle, full and
- * broken; the deepest byte that was written counts, less what an empty function takes. With numbers it fails where a call takes more. */
+/* How much stack each call takes: `stack [MOST]`. Each call runs on a painted stack of its own, on a box that is idle, full and
+ * broken; the deepest byte that was written counts, less what an empty function takes. With a number it fails where a call takes more. */
 #define _XOPEN_SOURCE 700
 #include <stdio.h>
 #include <stdlib.h>
@@ -12,11 +12,11 @@
 enum { STACK = 131072, FEW = 32 };
 
 static uint8_t idle[TRAWL_MEMORY], full[TRAWL_MEMORY], broken[TRAWL_MEMORY], box[TRAWL_MEMORY];
-static uint8_t message[TRAWL_RECORD], many[40 * TRAWL_RECORD], telegram[TRAWL_TELEGRAM], eight[8], out[TRAWL_REPLAY_ROOM(FEW)];
+static uint8_t message[TRAWL_RECORD], many[40 * TRAWL_RECORD], telegram[TRAWL_TELEGRAM], eight[8], out[2 * TRAWL_EVENT_ROOM];
 static const uint8_t recording[] = {1, 0, 5, 0, 0xA0, 0xC2, 0x1E, 4, 1, 5, 0, 0, 1, 2, 1, 2, 11, 1, 1, 12, 1, 13, 1, 14, 1, 1, 15, 1, 1, 16, 1, 3, 1};
 static struct trawl_pair pairs[TRAWL_PAIRS];
 static uint32_t number;
-static size_t length;
+static size_t length, at;
 
 #define BOX box, sizeof box
 
@@ -45,7 +45,7 @@ static void do_last_error(void) { trawl_last_error(BOX, 1, &number); }
 static void do_read_telegram(void) { trawl_read_telegram(0, 0, (const uint8_t *)"\xA0\x0F\x8A\xFF\x32\xFF", 6, telegram, sizeof telegram); }
 static void do_write_telegram(void) { trawl_write_telegram(telegram, sizeof telegram, eight, 8, &number); }
 static void do_time(void) { number = trawl_time(0x8A); }
-static void do_replay(void) { trawl_replay(recording, FEW, out, sizeof out, &length); }
+static void do_replay(void) { at = 0, trawl_replay(BOX, recording, FEW, &at, out, sizeof out, &length); }
 
 static const struct {
     const char *name;
@@ -99,7 +99,7 @@ static void boxes(void) {
 
 int main(int argc, char **argv) {
     static uint8_t *const states[3] = {idle, full, broken};
-    size_t most = 0, of_replay = 0, base, k;
+    size_t most = 0, base, k;
     boxes();
     base = depth(nothing);
     for (k = 0; k < sizeof calls / sizeof *calls; k++) {
@@ -112,11 +112,9 @@ int main(int argc, char **argv) {
             if (d > deepest) deepest = d;
         }
         if (argc == 1) printf("%-16s %5lu\n", calls[k].name, (unsigned long)deepest);
-        if (calls[k].call == do_replay) of_replay = deepest;
-        else if (deepest > most) most = deepest;
+        if (deepest > most) most = deepest;
     }
-    printf("stack: %lu bytes at most, %lu of a replay\n", (unsigned long)most, (unsigned long)of_replay);
+    printf("stack: %lu bytes at most\n", (unsigned long)most);
     if (argc > 1 && most > strtoul(argv[1], NULL, 10)) return 1;
-    if (argc > 2 && of_replay > strtoul(argv[2], NULL, 10)) return 1;
     return 0;
 }

@@ -7,9 +7,9 @@
 #include "../../include/trawlpepper.h"
 #include "../twin/replay.h"
 
-enum { LONGEST = 32768 };
+enum { LONGEST = 32768, WHOLE = 1 << 20, PIECE = 2 * TRAWL_EVENT_ROOM };
 
-static uint8_t recording[LONGEST + 1], expected[TRAWL_REPLAY_ROOM(LONGEST)], output[TRAWL_REPLAY_ROOM(LONGEST)];
+static uint8_t recording[LONGEST + 1], expected[WHOLE], output[WHOLE];
 
 static size_t all_of(const char *name, uint8_t *to, size_t room) {
     FILE *f = fopen(name, "rb");
@@ -24,6 +24,18 @@ static size_t all_of(const char *name, uint8_t *to, size_t room) {
 }
 
 typedef uint32_t replayer(const uint8_t *recording, size_t n, uint8_t *out, size_t room, size_t *length);
+
+/* the core's, in pieces, each behind the one before it */
+static uint32_t core_replay(const uint8_t *from, size_t n, uint8_t *out, size_t room, size_t *length) {
+    static uint8_t box[TRAWL_MEMORY];
+    size_t at = 0, m;
+    trawl_power_on(box, sizeof box);
+    for (*length = 0; at < n; *length += m) {
+        uint32_t code = trawl_replay(box, sizeof box, from, n, &at, out + *length, room - *length < PIECE ? room - *length : PIECE, &m);
+        if (code != STATUS_NOERROR) return code;
+    }
+    return STATUS_NOERROR;
+}
 
 /* the replay of the recording's n bytes writes the m bytes expected */
 static void writes(replayer *replay, const char *side, const char *name, size_t n, size_t m) {
@@ -41,7 +53,7 @@ int main(int argc, char **argv) {
         memcpy(name, argv[i], length - 4);
         memcpy(name + length - 4, ".out", 5);
         m = all_of(name, expected, sizeof expected);
-        writes(trawl_replay, "the core", argv[i], n, m);
+        writes(core_replay, "the core", argv[i], n, m);
         writes(twin_replay, "the twin", argv[i], n, m);
     }
     printf("hand-worked recordings agree: %d\n", argc - 1);

@@ -6,7 +6,7 @@
 #include "recording.h"
 #include "twin.h"
 
-enum { RECORD = 36 };
+enum { RECORD = 36, EVENT_ROOM = 2 + MOST * RECORD };
 
 /* one event; in->bad where it is a bad one, and then nothing was done */
 static uint8_t *play(uint8_t *m, input *in, uint8_t *out) {
@@ -56,11 +56,11 @@ uint32_t twin_replay(const uint8_t *recording, size_t n, uint8_t *out, size_t ro
     int marked = is_marked(recording, n);
     input in = {recording, recording + n, n > LONGEST};
     *length = 0;
-    if (room < (n > LONGEST ? 2 : 19 * n + 2306)) return 0x04;
     if (marked) in.at += MARK;
     twin_trusts = 1, twin_old_rates = !marked;
-    while (!in.bad && in.at < in.end) at = play(m, &in, at);
+    while (!in.bad && in.at < in.end && room - (size_t)(at - out) >= EVENT_ROOM) at = play(m, &in, at);
     twin_trusts = 0, twin_old_rates = 0;
+    if (room - (size_t)(at - out) < EVENT_ROOM) return 0x04;
     if (in.bad) at = put(at, BAD);
     *length = (size_t)(at - out);
     return 0;

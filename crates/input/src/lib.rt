@@ -1,15 +1,9 @@
-// A recording from standard input or a file, and room for its answers.
+// A recording from standard input or a file.
 ghost use mathlib.Core.Path.{_≡_};
-ghost use Prim.Native.Nat.{_+_, _*_};
-ghost use lib.ListN.{length, take};
-ghost use Rattle.recording_sizes.specs.Sizes.{longest, perByte, beyond};
+ghost use lib.ListN.{take};
 
 // One byte more than a recording may have: it tells an overlong one, and nothing past it is read.
 pub const READ: usize = recording_sizes::LONGEST + 1;
-
-// What a buffer has to have for the answers of any recording.
-pub const ROOM: usize = recording_sizes::PER_BYTE * recording_sizes::LONGEST
-    + recording_sizes::BEYOND;
 
 // Where one read more leaves the input: so many bytes are there, or it has ended, or it could not be read.
 enum Input {
@@ -59,11 +53,4 @@ pub fn first(bytes: &[u8], n: usize) -> &[u8]
         return &bytes[..n];
     }
     bytes
-}
-
-// Room for the answers of any recording.
-pub fn room() -> [u8; ROOM]
-    ensures { λ r. ⌜ perByte * longest + beyond ≡ length r ⌝ }
-{
-    [0; ROOM]
 }

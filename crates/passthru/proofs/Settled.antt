@@ -134,8 +134,8 @@ trawl-write-telegram-settled κs a x y p q = alike (p ∙ sym q) (λ s. (s .code
 pub trawl-time-settled : OneOutcome 0 trawl-time-kinds.ps trawl-time-kinds.r trawl-time.Post
 trawl-time-settled κs a x y p q = alike (p ∙ sym q) (λ s. (s, x .1))
 
-pub trawl-replay-settled : OneOutcome 3 trawl-replay-kinds.ps trawl-replay-kinds.r trawl-replay.Post
-trawl-replay-settled κs a x y p q = alike (p ∙ sym q) (λ s. (s .code, (tt, (s .buffer, (s .size, tt)))))
+pub trawl-replay-settled : OneOutcome 5 trawl-replay-kinds.ps trawl-replay-kinds.r trawl-replay.Post
+trawl-replay-settled κs a x y p q = alike (p ∙ sym q) (λ s. (s .code, (s .memory, (tt, (s .at, (s .buffer, (s .size, tt)))))))
 
 -- the two lists, whose functions are walked by hand: their postconditions are `SetPost` and `GetPost`, of which any two outcomes are equal (device,
 -- Settled `set-list-settled`, `get-list-settled`)

@@ -11,7 +11,7 @@ ghost use Rattle.layout.specs.Promise.{gives, outcome, powerOnOutcome};
 ghost use Rattle.device_lists.specs.Lists.{listed};
 ghost use Rattle.telegram.specs.Bits.{bitValue};
 ghost use Rattle.telegram.specs.Telegram.{timeOf, readAny};
-ghost use Rattle.recording.specs.Replay.{leaves, replayed};
+ghost use Rattle.recording.specs.Replay.{leaves, pieced};
 ghost use Rattle.telegram_record.specs.Crossing.{gave, reading, writing};
 use device::Pair;
 
@@ -267,12 +267,19 @@ pub extern "C" fn trawl_time(byte: u8) -> u32
     times::time(byte)
 }
 
-// Replays a recording from power-on into a buffer; how many bytes it gives.
+// Plays a piece of a recording from the place that `at` says, on a memory and into a buffer; where it left off, and how many bytes it wrote.
 #[no_mangle]
-pub extern "C" fn trawl_replay(recording: &[u8], out: &mut [u8], length: &mut usize) -> u32
-    ensures { λ c. ⌜ leaves c (now (length .exit)) (now (out .exit)) ≡ replayed (now (recording .entry)) (now (out .entry)) ⌝ }
+pub extern "C" fn trawl_replay(
+    mem: &mut [u8],
+    recording: &[u8],
+    at: &mut usize,
+    out: &mut [u8],
+    length: &mut usize,
+) -> u32
+    ensures { λ c. ⌜ leaves c (now (at .exit)) (now (length .exit)) (now (mem .exit)) (now (out .exit)) ≡ pieced (now (mem .entry)) (now (recording .entry)) (now (at .entry)) (now (out .entry)) ⌝ }
 {
-    let played = recording::replay(recording, out);
+    let played = recording::play_on(mem, recording, *at, out);
+    *at = played.at;
     *length = played.length;
     played.code
 }

@@ -24,10 +24,10 @@ use Rattle.events.specs.Found.{plainOf, givingOf}
 use Rattle.answers.specs.Output.{onDone, afterCall, afterCode, answerBytes, numbered, counted}
 use Rattle.answers.specs.Put.{Put}
 use Rattle.playing.specs.Step.{Answered}
-use Rattle.playing.proofs.Room.{small-number, small-code}
+use Rattle.playing.proofs.Small.{small-number, small-code}
 use Rattle.playing.proofs.Lent.{Gives, Counted, OneOrNone, reads, takes}
 use Rattle.answers.proofs.Put.{put-same, put-before, put-lent}
-use Rattle.recording_sizes.specs.Sizes.{beyond}
+use Rattle.recording_sizes.specs.Sizes.{eventRoom}
 
 -- ---- what a call on a valid memory promises, taken apart
 
@@ -199,7 +199,7 @@ pub record TakenInto (rates m out : List ℕ) (k at size c : ℕ) (b′ m′ : L
   pub done : c ≡ 0 → Answered rates (call k (takeNext (zeros 36))) m out at (at + 1 + 36) m′ (set (putMid (at + 1) size out b′) at c)
   pub refused : (c ≡ 0 → ⊥) → Answered rates (call k (takeNext (zeros 36))) m out at (at + 1) m′ (set (putMid (at + 1) size out b′) at c)
 
-module _ (rates m out : List ℕ) (ok : T (valid m)) (k at : ℕ) (room : at + beyond ≤ length out) where
+module _ (rates m out : List ℕ) (ok : T (valid m)) (k at : ℕ) (room : at + eventRoom ≤ length out) where
   pub read-into : (n size : ℕ) {c v : ℕ} (b′ : List ℕ) {m′ : List ℕ} → 36 * n ≡ size → n ≤ 64 → gives c v b′ m′ ≡ outcome rates m (call k (read n (midOf (at + 2) size out))) → length b′ ≡ size
       → ReadInto rates m out k n at size c v b′ m′
   read-into n size {c} {v} b′ {m′} e most =

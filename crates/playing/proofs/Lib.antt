@@ -1,5 +1,5 @@
 -- The laws that proofs here and in other crates cite. Assumes nothing.
-pub mod Room
+pub mod Small
 pub mod Lent
 pub mod Answers
 pub mod Turning

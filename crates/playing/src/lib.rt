@@ -4,7 +4,7 @@ ghost use mathlib.Core.List.{List};
 ghost use lib.Dec.{T};
 ghost use lib.ListN.{length};
 ghost use Rattle.codec.specs.Plain.{zeros};
-ghost use Rattle.recording_sizes.specs.Sizes.{most, beyond};
+ghost use Rattle.recording_sizes.specs.Sizes.{most, eventRoom};
 ghost use Rattle.machine.specs.Limits.{recordSize};
 ghost use Rattle.machine.specs.Channel.{takeNext};
 ghost use Rattle.machine.specs.Channel.{read as reads};
@@ -19,7 +19,7 @@ use events::Found;
 
 // Plays a read: the records go straight to their place in the output, and the code and the count stand in front of them.
 fn read_into(mem: &mut [u8], out: &mut [u8], at: usize, channel: u32, n: u32) -> usize
-    requires { ⌜ T (valid (now mem)) × (n ≤ most) × (at + beyond ≤ length (now out)) ⌝ }
+    requires { ⌜ T (valid (now mem)) × (n ≤ most) × (at + eventRoom ≤ length (now out)) ⌝ }
     ensures { λ r. ⌜ ((rates : List ℕ) → Answered rates (call channel (reads n (zeros (recordSize * n)))) (now (mem .entry)) (now (out .entry)) at r (now (mem .exit)) (now (out .exit))) ⌝ }
 {
     let from = at + 2;
@@ -32,7 +32,7 @@ fn read_into(mem: &mut [u8], out: &mut [u8], at: usize, channel: u32, n: u32) ->
 
 // Plays a take: the record goes straight to its place in the output, and the code stands in front of it.
 fn take_into(mem: &mut [u8], out: &mut [u8], at: usize, channel: u32) -> usize
-    requires { ⌜ T (valid (now mem)) × (at + beyond ≤ length (now out)) ⌝ }
+    requires { ⌜ T (valid (now mem)) × (at + eventRoom ≤ length (now out)) ⌝ }
     ensures { λ r. ⌜ ((rates : List ℕ) → Answered rates (call channel (takeNext (zeros recordSize))) (now (mem .entry)) (now (out .entry)) at r (now (mem .exit)) (now (out .exit))) ⌝ }
 {
     let from = at + 1;
@@ -54,7 +54,7 @@ fn play(
     out: &mut [u8],
     at: usize,
 ) -> usize
-    requires { ⌜ T (valid (now mem)) × EventThere (now recording) e × (at + beyond ≤ length (now out)) ⌝ }
+    requires { ⌜ T (valid (now mem)) × EventThere (now recording) e × (at + eventRoom ≤ length (now out)) ⌝ }
     ensures { λ r. ⌜ Answered (now (rates .entry)) (eventOf (now (recording .entry)) e) (now (mem .entry)) (now (out .entry)) at r (now (mem .exit)) (now (out .exit)) ⌝ }
 {
     match e {
@@ -82,7 +82,7 @@ fn play(
 
 // Plays an event with the rates of its recording's edition.
 fn play_by_edition(mem: &mut [u8], recording: &[u8], e: Event, out: &mut [u8], at: usize) -> usize
-    requires { ⌜ T (valid (now mem)) × EventThere (now recording) e × (at + beyond ≤ length (now out)) ⌝ }
+    requires { ⌜ T (valid (now mem)) × EventThere (now recording) e × (at + eventRoom ≤ length (now out)) ⌝ }
     ensures { λ r. ⌜ Answered (ratesOf (now (recording .entry))) (eventOf (now (recording .entry)) e) (now (mem .entry)) (now (out .entry)) at r (now (mem .exit)) (now (out .exit)) ⌝ }
 {
     if edition::is_marked(recording) {
@@ -101,7 +101,7 @@ pub struct Turn {
 
 // Plays the event at a place of a recording; a bad one is answered as such, and ends the recording.
 fn play_event(mem: &mut [u8], recording: &[u8], at: usize, out: &mut [u8], place: usize) -> Turn
-    requires { ⌜ T (valid (now mem)) × (place + beyond ≤ length (now out)) ⌝ }
+    requires { ⌜ T (valid (now mem)) × (place + eventRoom ≤ length (now out)) ⌝ }
     ensures { λ r. ⌜ TurnedAs (ratesOf (now (recording .entry))) (readEvent (now (recording .entry)) at) (now (recording .entry)) (now (mem .entry)) (now (out .entry)) place (r .next) (r .place) (now (mem .exit)) (now (out .exit)) ⌝ }
 {
     let Found::Good(e, next) = event_reader::read_event(recording, at) else {
@@ -117,7 +117,7 @@ fn play_event(mem: &mut [u8], recording: &[u8], at: usize, out: &mut [u8], place
 
 // Plays what stands at a place of a recording: the mark of its edition, which writes no answer, or an event.
 pub fn play_at(mem: &mut [u8], recording: &[u8], at: usize, out: &mut [u8], place: usize) -> Turn
-    requires { ⌜ T (valid (now mem)) × (place + beyond ≤ length (now out)) ⌝ }
+    requires { ⌜ T (valid (now mem)) × (place + eventRoom ≤ length (now out)) ⌝ }
     ensures { λ r. ⌜ Turned (ratesOf (now (recording .entry))) (now (recording .entry)) at (now (mem .entry)) (now (out .entry)) place (r .next) (r .place) (now (mem .exit)) (now (out .exit)) ⌝ }
 {
     if edition::is_mark(recording, at) {

@@ -1,2 +1,3 @@
--- What a replay writes, and what the contracts of this crate cite. Assumes nothing.
+-- What a replay writes, whole and in pieces, and what the contracts of this crate cite. Assumes nothing.
 pub mod Replay
+pub mod Joined

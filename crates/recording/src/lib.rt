@@ -1,70 +1,80 @@
-// Replays recordings: each event is read, played on a device memory from power-on, and answered in bytes.
+// Replays recordings in pieces: each event is read, played on a lent device memory, and answered in bytes.
 ghost use mathlib.Core.Path.{_≡_};
-ghost use Prim.Native.Nat.{_+_, _*_, _≤_};
+ghost use Prim.Native.Nat.{_+_, _≤_};
+ghost use lib.Dec.{T};
 ghost use lib.ListN.{length};
-ghost use Rattle.codec.specs.Plain.{zeros};
-ghost use Rattle.recording_sizes.specs.Sizes.{perByte, beyond};
-ghost use Rattle.layout.specs.Sizes.{memorySize};
-ghost use Rattle.machine.specs.Device.{powerOn};
-ghost use Rattle.edition.specs.Edition.{ratesOf, startOf};
-ghost use Rattle.answers.specs.Put.{Put};
-ghost use Rattle.recording.specs.Replay.{leaves, played, roomFor, replayed};
+ghost use Rattle.recording_sizes.specs.Sizes.{eventRoom};
+ghost use Rattle.layout.specs.Memory.{valid, load};
+ghost use Rattle.edition.specs.Edition.{ratesOf};
+ghost use Rattle.recording.specs.Replay.{goesOn, eventAt, leaves, written, pieced};
+use playing::Turn;
 use reader::Reader;
 
-// The code of a replay, and how many bytes of the output it wrote.
+// The code of a piece, the place in the recording at which it left off, and how many bytes of the output it wrote.
 pub struct Played {
     pub code: u32,
+    pub at: usize,
     pub length: usize,
 }
 
-// Plays a recording on a memory of zeros, behind its mark if it has one, event by event, to its end or a bad event: a reader moves through it.
-// Gives the length of the output.
-fn play_all(mem: &mut [u8], recording: &[u8], out: &mut [u8]) -> usize
-    requires { ⌜ (now mem ≡ zeros memorySize) × (perByte * length (now recording) + beyond ≤ length (now out)) ⌝ }
-    ensures { λ r. ⌜ Put (now (out .entry)) 0 (played (ratesOf (now (recording .entry))) (length (now (recording .entry))) powerOn (now (recording .entry)) (startOf (now (recording .entry)))) r (now (out .exit)) ⌝ }
+// Plays a recording from a place on, event by event, to its end or a bad event, or until the output is past the last place at which there is room
+// for one event: a reader moves through it. Gives where it left off in both.
+fn play_events(mem: &mut [u8], recording: &[u8], at: usize, out: &mut [u8], last: usize) -> Turn
+    requires { ⌜ T (valid (now mem)) × (at ≤ length (now recording)) × (last + eventRoom ≡ length (now out)) ⌝ }
+    ensures { λ r. ⌜ leaves 0x00 (r .next) (r .place) (now (mem .exit)) (now (out .exit)) ≡ written (goesOn (ratesOf (now (recording .entry))) (length (now (recording .entry))) (load (now (mem .entry))) (now (recording .entry)) (eventAt (now (recording .entry)) at) (length (now (out .entry)))) (now (out .entry)) ⌝ }
 {
-    let mut reader = Reader::new(recording, 0);
+    let mut reader = Reader::new(recording, at);
     let mut place = 0;
-    while !reader.at_end() {
+    while !reader.at_end() & (place <= last) {
         let turn = playing::play_at(mem, recording, reader.at, out, place);
         place = turn.place;
         reader = reader.moved_to(turn.next);
     }
-    place
-}
-
-// The bytes that the output's buffer has to have.
-fn room_for(recording: &[u8]) -> usize
-    ensures { λ r. ⌜ r ≡ roomFor (now (recording .entry)) ⌝ }
-{
-    if recording.len() > recording_sizes::LONGEST {
-        return recording_sizes::BAD_SIZE;
+    Turn {
+        next: reader.at,
+        place,
     }
-    recording_sizes::PER_BYTE * recording.len() + recording_sizes::BEYOND
 }
 
-// Replays a recording from power-on into a lent buffer: 0x00 and the length of the output, or 0x04 where the buffer is too short for what a
-// recording of this length may give. One of more than 32,768 bytes counts as a bad event.
-pub fn replay(recording: &[u8], out: &mut [u8]) -> Played
-    ensures { λ r. ⌜ leaves (r .code) (r .length) (now (out .exit)) ≡ replayed (now (recording .entry)) (now (out .entry)) ⌝ }
+// Nothing is played: a code, and the place stays.
+fn stays(code: u32, at: usize) -> Played
+    ensures { λ r. ⌜ (r .code ≡ code) × (r .at ≡ at) × (r .length ≡ 0) ⌝ }
 {
-    if out.len() < room_for(recording) {
-        return Played {
-            code: codes::ERR_NULL_PARAMETER,
-            length: 0,
-        };
+    Played {
+        code,
+        at,
+        length: 0,
+    }
+}
+
+// Plays a piece of a recording from a place on, on a lent memory and into a lent buffer: 0x1A for what is no device memory, 0x04 where the buffer
+// has no room for one event, and nothing changes; else 0x00, where it left off, and how many bytes it wrote. A bad event, or a recording of more than
+// 32,768 bytes, ends at the recording's end. The device's memory and the place are all that the next piece needs.
+pub fn play_on(mem: &mut [u8], recording: &[u8], at: usize, out: &mut [u8]) -> Played
+    ensures { λ r. ⌜ leaves (r .code) (r .at) (r .length) (now (mem .exit)) (now (out .exit)) ≡ pieced (now (mem .entry)) (now (recording .entry)) at (now (out .entry)) ⌝ }
+{
+    if !validity::valid(mem) {
+        return stays(codes::ERR_INVALID_DEVICE_ID, at);
+    }
+    if out.len() < recording_sizes::EVENT_ROOM {
+        return stays(codes::ERR_NULL_PARAMETER, at);
+    }
+    if at >= recording.len() {
+        return stays(codes::STATUS_NOERROR, at);
     }
     if recording.len() > recording_sizes::LONGEST {
         let length = answers::put_number(out, 0, recording_sizes::BAD_EVENT);
         return Played {
             code: codes::STATUS_NOERROR,
+            at: recording.len(),
             length,
         };
     }
-    let mut mem = [0; places::MEMORY];
-    let length = play_all(&mut mem, recording, out);
+    let last = out.len() - recording_sizes::EVENT_ROOM;
+    let end = play_events(mem, recording, at, out, last);
     Played {
         code: codes::STATUS_NOERROR,
-        length,
+        at: end.next,
+        length: end.place,
     }
 }

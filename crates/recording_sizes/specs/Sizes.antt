@@ -10,16 +10,10 @@ longest = 32_768
 abbrev pub most : ℕ
 most = 64
 
--- the room that a buffer has for the answers to each byte of a recording, and beyond it: the code, the count and the records of one read
-abbrev pub perByte : ℕ
-perByte = 19
+-- THE ROOM OF ONE EVENT: the most bytes that the answer to one event takes: the code, the count and the records of a read
+abbrev pub eventRoom : ℕ
+eventRoom = 2 + most * recordSize
 
-abbrev pub beyond : ℕ
-beyond = 2 + most * recordSize
-
--- the number that stands for a bad event, and the bytes that it takes
+-- the number that stands for a bad event
 abbrev pub badNumber : ℕ
 badNumber = 255
-
-abbrev pub badSize : ℕ
-badSize = 2

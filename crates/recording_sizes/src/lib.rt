@@ -12,12 +12,8 @@ pub const MOST: u32 = 64;
 // The bytes of as many records.
 pub const RECORDS: usize = 64 * RECORD;
 
-// The room that a buffer has for the answers to each byte of a recording, and beyond it for the code, the count and the records of one read.
-pub const PER_BYTE: usize = 19;
+// The most bytes that the answer to one event takes: the code, the count and the records of a read.
+pub const EVENT_ROOM: usize = 2 + RECORDS;
 
-pub const BEYOND: usize = 2 + RECORDS;
-
-// The number that stands for a bad event, and the bytes that it takes.
+// The number that stands for a bad event.
 pub const BAD_EVENT: u32 = 255;
-
-pub const BAD_SIZE: usize = 2;
