@@ -2,3 +2,4 @@ pub mod Memory
 pub mod Reach
 pub mod Rows
 pub mod Entry
+pub mod Isolation

@@ -106,6 +106,11 @@ isos =
           (in-many isoRegion-lawful shut lines (d .isos) i (many-each lines isoRegion (d .isos) (isos-ok d t)) (omega (arith, many-count lines isoRegion (d .isos) (isos-ok d t)))))));
     }
 
+-- the clock lies in front of them
+pub clock-place : (d : Device) → Place memory word32 d 0 (d .clock) (λ t. record { clock = t; chans = d .chans; isos = d .isos })
+unfolding memory
+clock-place d = inside (in-via deviceParts deviceBack (both word32 Regions) d (λ p. refl)) (in-first word32 Regions (deviceParts d))
+
 -- what a channel leaves and answers, with the bytes of its region
 abbrev pub rowGives : {C : Type 0} → Row C → C × Answer → Result
 rowGives w x = answered (x .1) (w .code .put (x .0))
@@ -118,7 +123,7 @@ not-valid rates m e h = rw h refl
 
 -- ---- a valid one
 
-memory-put : (d : Device) → image d ≡ memory .put d
+pub memory-put : (d : Device) → image d ≡ memory .put d
 unfolding image
 memory-put d = refl
 

@@ -1,3 +1,4 @@
 pub mod Sizes
 pub mod Memory
 pub mod Promise
+pub mod Runs
