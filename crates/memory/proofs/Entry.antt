@@ -4,32 +4,36 @@ use mathlib.Core.Path.{_≡_, refl, sym, ap, ap₂, _∙_, subst}
 use Prim.Native.Nat.{ℕ, zero, suc, _+_, _*_, _-_, _≤_, _<_}
 use native.Mathlib.Nat.{suc-ne-zero}
 use native.Mathlib.Omega.{arith}
-use mathlib.Core.Bool.{Bool, true, false, _||_}
+use mathlib.Core.Bool.{Bool, true, false, true≢false, _||_}
 use mathlib.Core.List.{List, []}
-use lib.ListN.{length, set, take, drop}
-use lib.Seq.{length-take-le}
+use lib.ListN.{length, getD, set, take, drop}
+use lib.Seq.{length-take-le, getD-take, getD-drop}
 use lib.Dec.{T, eqb, eqb→eq}
-use borrow.Rule.Slice.PartMut.{putMid, midOf}
-use Rattle.codec.specs.Code.{Code}
+use borrow.Rule.Slice.PartMut.{putMid, midOf, put-same}
+use Rattle.codec.specs.Plain.{if_then_else_}
+use Rattle.codec.specs.Code.{via, slot}
+use Rattle.codec.proofs.Tests.{true-T, or-left}
 use Rattle.machine.specs.Limits.{lines}
 use Rattle.machine.specs.Channel.{Chan, closed, opened, Call, lent, Answer, says, onCall, isOpen, notes, noted}
 use Rattle.machine.specs.Device.{Event, call}
 use Rattle.machine.proofs.Refusals.{open-opens}
 use Rattle.layout.specs.Sizes.{regionSize, lastAt}
+use Rattle.layout.specs.Memory.{region}
 use Rattle.layout.specs.Promise.{Result, gives}
 use Rattle.layout.proofs.Entry.{last-stored, set-middle}
 use Rattle.iso.specs.Iso.{Iso, shut, ready, onIsoCall, isReady, isoNotes, isoNoted}
 use Rattle.iso.proofs.Fair.{ready-readies}
-use Rattle.iso_layout.specs.Sizes.{isoRegionSize, isoLastAt}
+use Rattle.iso_layout.specs.Sizes.{isoLastAt}
+use Rattle.iso_layout.specs.Region.{isoRegion}
 use Rattle.iso_layout.proofs.Region.{iso-notes-stored}
 use Rattle.whole.specs.Device.{Device, step}
 use Rattle.whole.specs.Demands.{EightChannels}
 use Rattle.whole.proofs.Dispatch.{step-call, step-iso-call}
-use Rattle.memory.specs.Memory.{load, valid}
+use Rattle.memory.specs.Memory.{image, load, valid}
 use Rattle.memory.specs.Promise.{outcome, notedIn}
 use Rattle.memory.proofs.Memory.{ok-load}
 use Rattle.memory.proofs.Reach.{ok-sane}
-use Rattle.memory.proofs.Rows.{Row, raws, isos, rowGives, region-got, region-long, region-ends, entered}
+use Rattle.memory.proofs.Rows.{Row, raws, isos, rowGives, region-is, region-got, region-long, region-ends, put-back, entered}
 
 -- ---- a kind of channel: its row of regions, the numbers of its channels, what a call does, and its last code, a byte of its region
 
@@ -42,28 +46,52 @@ pub record Kind (C : Type 0) : Type 0 where
   pub last : ℕ
   pub last-in : last < row .size
   pub unnoted : (c : C) → notes 0 c ≡ c
+  pub marked : (c : C) → getD (row .code .put c) 0 0 ≡ (if openly c then 1 else 0)
+  pub silent : (c : C) (k : ℕ) → openly c ≡ false → notes k c ≡ c
   pub stored : (c : C) (k : ℕ) → T (openly c) → length (row .code .put c) ≡ row .size → set (row .code .put c) last (suc k) ≡ row .code .put (notes (suc k) c)
   pub opens : (rates : List ℕ) (now : ℕ) (c : C) (x : Call) → T (openly c) → T (openly (on rates now c x .0) || eqb (on rates now c x .1 .code) 0)
   pub steps : (rates : List ℕ) (d : Device) (i : ℕ) (x : Call) → EightChannels d → i < lines
       → step rates d (call (number i) x) ≡ (row .put i (notes (on rates (d .clock) (row .chan i d) x .1 .code) (on rates (d .clock) (row .chan i d) x .0)) d, on rates (d .clock) (row .chan i d) x .1)
 
-raw-stored : (c : Chan) (k : ℕ) → T (isOpen c) → length (raws .code .put c) ≡ regionSize → set (raws .code .put c) lastAt (suc k) ≡ raws .code .put (notes (suc k) c)
+pub raw-stored : (c : Chan) (k : ℕ) → T (isOpen c) → length (raws .code .put c) ≡ regionSize → set (raws .code .put c) lastAt (suc k) ≡ raws .code .put (notes (suc k) c)
 unfolding raws isOpen notes
 raw-stored closed k t long = absurd t
 raw-stored (opened o) k t long = last-stored o (suc k) long
 
-raw-opens : (rates : List ℕ) (now : ℕ) (c : Chan) (x : Call) → T (isOpen c) → T (isOpen (onCall rates now c x .0) || eqb (onCall rates now c x .1 .code) 0)
+pub raw-marked : (c : Chan) → getD (raws .code .put c) 0 0 ≡ (if isOpen c then 1 else 0)
+unfolding raws region via slot isOpen
+raw-marked closed = refl
+raw-marked (opened o) = refl
+
+pub raw-silent : (c : Chan) (k : ℕ) → isOpen c ≡ false → notes k c ≡ c
+unfolding isOpen notes
+raw-silent c zero h = refl
+raw-silent closed (suc k) h = refl
+raw-silent (opened o) (suc k) h = absurd (true≢false h)
+
+pub iso-marked : (c : Iso) → getD (isos .code .put c) 0 0 ≡ (if isReady c then 1 else 0)
+unfolding isos isoRegion via slot isReady
+iso-marked shut = refl
+iso-marked (ready o) = refl
+
+pub iso-silent : (c : Iso) (k : ℕ) → isReady c ≡ false → isoNotes k c ≡ c
+unfolding isReady isoNotes
+iso-silent c zero h = refl
+iso-silent shut (suc k) h = refl
+iso-silent (ready o) (suc k) h = absurd (true≢false h)
+
+pub raw-opens : (rates : List ℕ) (now : ℕ) (c : Chan) (x : Call) → T (isOpen c) → T (isOpen (onCall rates now c x .0) || eqb (onCall rates now c x .1 .code) 0)
 unfolding isOpen onCall
 raw-opens rates now closed x t = absurd t
 raw-opens rates now (opened o) x t = open-opens rates now o x
 
-iso-opens : (rates : List ℕ) (now : ℕ) (c : Iso) (x : Call) → T (isReady c) → T (isReady (onIsoCall rates now c x .0) || eqb (onIsoCall rates now c x .1 .code) 0)
+pub iso-opens : (rates : List ℕ) (now : ℕ) (c : Iso) (x : Call) → T (isReady c) → T (isReady (onIsoCall rates now c x .0) || eqb (onIsoCall rates now c x .1 .code) 0)
 unfolding isReady onIsoCall
 iso-opens rates now shut x t = absurd t
 iso-opens rates now (ready o) x t = ready-readies rates now o x
 
 -- raw CAN has the numbers 1 to 4, ISO 15765 5 to 8
-pub rawKind : Kind Chan
+unfoldable pub rawKind : Kind Chan
 unfolding raws notes noted
 rawKind =
     record {
@@ -75,12 +103,14 @@ rawKind =
       last = lastAt;
       last-in = omega arith;
       unnoted = λ c. refl;
+      marked = raw-marked;
+      silent = raw-silent;
       stored = raw-stored;
       opens = raw-opens;
       steps = λ rates d i x w h. step-call rates d i x w h;
     }
 
-pub isoKind : Kind Iso
+unfoldable pub isoKind : Kind Iso
 unfolding isos isoNotes isoNoted
 isoKind =
     record {
@@ -92,6 +122,8 @@ isoKind =
       last = isoLastAt;
       last-in = omega arith;
       unnoted = λ c. refl;
+      marked = iso-marked;
+      silent = iso-silent;
       stored = iso-notes-stored;
       opens = iso-opens;
       steps = λ rates d i x w h. step-iso-call rates d i x w h;
@@ -147,3 +179,41 @@ module _ {C : Type 0} (kind : Kind C) where
         (ap₂ (λ (z : Result) (l : List ℕ). gives (z .code) (z .value) (z .buffer) l) q
         (ap₂ (notedIn (kind .last) 0) e y ∙ notes-stored (a .0) (a .1 .code) (kind .opens rates (load m .clock) (w .chan i (load m)) x up) (ap length (sym y) ∙ long)))
         base is
+
+  -- ---- a code that is noted, in the memory
+
+  module _ (m : List ℕ) (v : T (valid m)) (i : ℕ) (h : i < lines) where
+    abbrev begin : ℕ
+    begin = w .first + i * w .size
+
+    abbrev here : C
+    here = w .chan i (load m)
+
+    -- the first byte of the region tells whether the channel is open
+    pub marked-here : getD m begin 0 ≡ (if kind .openly here then 1 else 0)
+    marked-here =
+        let z : begin + 0 ≡ begin = omega arith in
+        let big : 0 < w .size = omega (arith, kind .last-in) in
+        ap (λ (n : ℕ). getD m n 0) (sym z) ∙ sym (getD-take (w .size) (drop begin m) 0 0 big ∙ getD-drop begin m 0 0) ∙ ap (λ (x : List ℕ). getD x 0 0) (region-is m v w i h) ∙ kind .marked here
+
+    pub noted-image : (k : ℕ) → image (w .put i (kind .notes (suc k) here) (load m)) ≡ (if eqb (getD m begin 0) 1 then set m (begin + kind .last) (suc k) else m)
+    unfolding notedIn
+    noted-image k = by (kind .openly here) refl ∙ ap (λ (n : ℕ). if eqb n 1 then set m (begin + kind .last) (suc k) else m) (sym marked-here)
+      where
+        r : List ℕ
+        r = take (w .size) (drop begin m)
+
+        long : length (w .code .put here) ≡ w .size
+        long = ap length (sym (region-is m v w i h)) ∙ region-long m v w i h
+
+        by : (b : Bool) → kind .openly here ≡ b → image (w .put i (kind .notes (suc k) here) (load m)) ≡ (if eqb (if kind .openly here then 1 else 0) 1 then set m (begin + kind .last) (suc k) else m)
+        by true q =
+            let in-memory : begin ≤ length m = omega (arith, region-ends m v w i h) in
+            let in-region : kind .last < length r = subst (λ (n : ℕ). kind .last < n) (sym (region-long m v w i h)) (kind .last-in) in
+            sym (put-back m v w i h (kind .notes (suc k) here))
+            ∙ ap (λ (z : List ℕ). putMid begin (w .size) m z) (sym (notes-stored here (suc k) (or-left (kind .openly here) (eqb (suc k) 0) (true-T (kind .openly here) q)) long) ∙ ap (notedIn (kind .last) 0 (suc k)) (sym (region-is m v w i h)))
+            ∙ sym (noted-there m (kind .last) begin (w .size) (suc k) r in-memory in-region) ∙ ap (notedIn (kind .last) begin (suc k)) (put-same begin (w .size) m)
+            ∙ sym (ap (λ (b : Bool). if eqb (if b then 1 else 0) 1 then set m (begin + kind .last) (suc k) else m) q)
+        by false q =
+            ap (λ (c : C). image (w .put i c (load m))) (kind .silent here (suc k) q) ∙ sym (put-back m v w i h here) ∙ ap (λ (z : List ℕ). putMid begin (w .size) m z) (sym (region-is m v w i h))
+            ∙ put-same begin (w .size) m ∙ sym (ap (λ (b : Bool). if eqb (if b then 1 else 0) 1 then set m (begin + kind .last) (suc k) else m) q)

@@ -3,3 +3,5 @@ pub mod Reach
 pub mod Rows
 pub mod Entry
 pub mod Isolation
+pub mod Unique
+pub mod Demands

@@ -6,20 +6,22 @@ use mathlib.Core.List.{List, [], _∷_}
 use lib.ListN.{length}
 use lib.Dec.{T, eqb, eqb→eq, eqb-refl}
 use Rattle.codec.specs.Plain.{zeros}
-use Rattle.codec.specs.Code.{word32, both, via, many}
+use Rattle.codec.specs.Word.{word}
+use Rattle.codec.specs.Code.{byte, word32, both, bothOn, via, such, mark, many, slot, vacant, upTo, upToOne, beside, eachVia}
 use Rattle.codec.proofs.Tests.{left, right, join}
 use Rattle.codec.proofs.Lawful.{Lawful, word-lawful, both-lawful, via-lawful}
 use Rattle.codec.proofs.Many.{many-lawful}
 use Rattle.machine.specs.Limits.{lines}
-use Rattle.layout.specs.Memory.{region}
+use Rattle.layout.specs.Record.{row, body, rec36, outCell, inCell}
+use Rattle.layout.specs.Memory.{config, filterColumns, filters, periodicColumns, periodics, sendingPart, receivingPart, lastPart, rest, openPart, region}
 use Rattle.layout.specs.Sizes.{numberSize, regionSize}
 use Rattle.layout.proofs.Memory.{region-lawful}
 use Rattle.layout.proofs.Sizes.{region-size, rows}
 use Rattle.iso_layout.specs.Sizes.{isoRegionSize}
-use Rattle.iso_layout.specs.Region.{isoRegion}
+use Rattle.iso_layout.specs.Region.{rec536, messageCell, frameCell, heardCell, payload508, transferPlain, transferCode, talkCell, talksCode, flightCode, heardPart, isoLastPart, isoRest, readyPart, isoRegion}
 use Rattle.iso_layout.proofs.Sizes.{isoRegion-size}
 use Rattle.iso_layout.proofs.Lawful.{isoRegion-lawful}
-use Rattle.whole.specs.Device.{Device}
+use Rattle.whole.specs.Device.{Device, powerOn}
 use Rattle.memory.specs.Sizes.{rawAt, isosAt, isoAtByte, boxSize}
 use Rattle.memory.specs.Memory.{deviceParts, deviceBack, memory, image, load, valid}
 
@@ -39,6 +41,11 @@ box-fields = refl
 
 pub box-numbers : rawAt 0 ∷ rawAt 1 ∷ rawAt 2 ∷ rawAt 3 ∷ isoAtByte 0 ∷ isoAtByte 1 ∷ isoAtByte 2 ∷ isoAtByte 3 ∷ boxSize ∷ [] ≡ 4 ∷ 2503 ∷ 5002 ∷ 7501 ∷ 10000 ∷ 18064 ∷ 26128 ∷ 34192 ∷ 42256 ∷ []
 box-numbers = refl
+
+-- power-on's bytes are zeros
+pub power-on-zeros : image powerOn ≡ zeros boxSize
+unfolding isoRegion readyPart isoRest bothOn config heardPart isoLastPart flightCode talksCode talkCell transferCode transferPlain payload508 heardCell frameCell messageCell rec536 mark via such both many slot upTo word32 byte image powerOn memory region openPart rest receivingPart sendingPart lastPart periodics periodicColumns filters filterColumns outCell inCell rec36 body row vacant upToOne beside eachVia word
+power-on-zeros = refl
 
 -- ---- BOTH ROUND TRIPS. What a box lies in is that box again, and a valid memory is the bytes of the box in it
 

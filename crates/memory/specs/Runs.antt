@@ -62,6 +62,34 @@ regionOf i m = take (sizeAt i) (drop (placeAt i) m)
 abbrev pub clockOf : List ℕ → List ℕ
 clockOf m = take numberSize m
 
+-- ---- DEMAND 1
+
+-- where in its region the last code of place i lies
+unfoldable pub lastIn : ℕ → ℕ
+lastIn i = if ltb i lines then lastAt else isoLastAt
+
+-- the memory, and only the last code of the channel at a place has become this one; where the channel isn't open, the memory
+unfoldable pub lastBecomes : ℕ → ℕ → List ℕ → List ℕ
+lastBecomes i code m = if eqb (getD m (placeAt i) 0) 1 then set m (placeAt i + lastIn i) code else m
+
+unfoldable pub becomesBy : Option ℕ → ℕ → List ℕ → List ℕ
+becomesBy none code m = m
+becomesBy (some i) code m = lastBecomes i code m
+
+-- ALL THAT A REFUSAL LEAVES BEHIND in the memory, a byte: its code, as the last of the open channel that a call names (neither 0x02 nor 0x1A names
+-- one), or that a connect finds in use
+unfoldable pub remembered : Event → ℕ → List ℕ → List ℕ
+remembered (connect l p f r) code m = if eqb code 0x14 then becomesBy (connected l p) code m else m
+remembered (call k x) code m = if member code (0x02 ∷ 0x1A ∷ []) then m else lastBecomes (k - 1) code m
+remembered (frame l w n b) code m = m
+remembered (advance t) code m = m
+remembered close code m = m
+
+-- the call changes neither the memory nor the lent buffer, but for that byte
+pub record NothingElseChanged (rates m : List ℕ) (e : Event) : Type 0 where
+  pub memory : outcome rates m e .memory ≡ remembered e (outcome rates m e .code) m
+  pub buffer : outcome rates m e .buffer ≡ lentBy e
+
 -- ---- DEMAND 2
 
 -- each call gives the answer of the plain machine, started in the state d, and they leave the bytes of its state
