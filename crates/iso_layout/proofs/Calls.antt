@@ -68,7 +68,7 @@ clean-ok flags m h t e =
     let l = data-long m h high in
     sending-make flags isoData (omega arith) (wideOf m) (dataOf m) (record { least = omega arith; most = omega arith; bytes = data-bytes m t; identifier = id; width = width })
 
-writing-ok : (flags : ℕ) (ts : Slots Talk) (n : ℕ) (b : List ℕ) (held : List Rec) (count : ℕ) → isoRecordSize * n ≤ length b → T (all isByte b) → T (upTo mostMessages (messageCell flags) .ok held)
+pub writing-ok : (flags : ℕ) (ts : Slots Talk) (n : ℕ) (b : List ℕ) (held : List Rec) (count : ℕ) → isoRecordSize * n ≤ length b → T (all isByte b) → T (upTo mostMessages (messageCell flags) .ok held)
     → T (upTo mostMessages (messageCell flags) .ok (isoWriting flags ts n b held count .held))
 unfolding isoWriting isoWriteCode unlessStopped
 writing-ok flags ts zero b held count h t u = u

@@ -1,7 +1,7 @@
 -- The region of an open ISO 15765 channel: how a call that leaves it or moves it meets its promise, and its parts, each lent as a slice. Assumes
 -- nothing.
 use mathlib.Core.Path.{_≡_, refl, sym, ap, _∙_, subst}
-use Prim.Native.Nat.{ℕ, suc, _+_, _*_, _<_}
+use Prim.Native.Nat.{ℕ, suc, _+_, _*_, _^_, _<_}
 use native.Mathlib.Omega.{arith}
 use mathlib.Core.Option.{none}
 use mathlib.Core.List.{List, [], _∷_, _++_, append-assoc}
@@ -9,11 +9,14 @@ use lib.ListN.{length, getD, set, drop, length-append}
 use lib.Seq.{set-append-seam}
 use lib.Dec.{T}
 use Rattle.codec.specs.Plain.{zeros}
-use Rattle.codec.specs.Code.{byte, via, such, slot, getSlot, upTo, both, bothOn}
-use Rattle.codec.proofs.Tests.{join}
+use Rattle.codec.specs.Word.{word, wordAt}
+use Rattle.codec.specs.Code.{byte, word32, via, such, slot, getSlot, upTo, both, bothOn}
+use Rattle.codec.proofs.Tests.{left, join}
+use Rattle.codec.proofs.Word.{word-back}
+use Rattle.codec.proofs.Lawful.{ok-word}
 use Rattle.codec.proofs.Lists.{all-at}
 use Rattle.codec.proofs.Many.{many-each, slot-lawful, upTo-lawful}
-use Rattle.codec.proofs.Part.{Part, part}
+use Rattle.codec.proofs.Part.{Part, part, byte-of}
 use Rattle.machine.specs.Channel.{Call, says}
 use Rattle.layout.specs.Memory.{config}
 use Rattle.layout.specs.Sizes.{configSize, flagsAt}
@@ -115,6 +118,15 @@ module _ (o : OpenIso) (r : List ℕ) (l : Lies o r) where
 
   pub config-part : Part isoRegion r config flagsAt configSize (o .config) (λ c. ready (setConfig o c))
   config-part = part r (l .bytes) configSize config-size (iso-config-place o) config-lawful (l .config-ok)
+
+  -- the flags of the connection, read in place
+  pub flags-at : wordAt flagsAt r ≡ o .config .flags
+  unfolding config via such both word32 word wordAt
+  flags-at =
+      let p = config-part in
+      let small : o .config .flags < 2 ^ 32 = ok-word (o .config .flags) (search (left, l .config-ok)) in
+      let same : wordAt flagsAt r ≡ wordAt 0 (config .put (o .config)) = omega (arith, byte-of p 0 (omega arith), byte-of p 1 (omega arith), byte-of p 2 (omega arith), byte-of p 3 (omega arith)) in
+      same ∙ word-back (o .config .flags) small
 
   pub talks-part : Part isoRegion r (talksCode flags) talksAt talksSize (o .talks) (λ ts. ready (setTalks o ts))
   talks-part = part r (l .bytes) talksSize (talks-size flags) (talks-place o (l .config-ok)) (talks-lawful flags) (l .talks-ok)

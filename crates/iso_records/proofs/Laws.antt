@@ -1,7 +1,6 @@
 -- The bytes of a record of 536 bytes as code writes them: six numbers, then data and zeros; the checks of a message. Assumes nothing.
 use mathlib.Core.Path.{_≡_, refl, sym, ap, ap₂, _∙_}
 use Prim.Native.Nat.{ℕ, _+_, _-_, _≤_}
-use native.Mathlib.Omega.{arith}
 use mathlib.Core.List.{List, _++_}
 use lib.ListN.{length, drop}
 use borrow.Rule.Slice.PartMut.{putMid, midOf}

@@ -18,7 +18,7 @@ const LEAST: u32 = NUMBER as u32;
 const MOST: u32 = ROW as u32;
 
 // Is the message's width flag set?
-fn is_wide(m: &[u8]) -> bool
+pub fn is_wide(m: &[u8]) -> bool
     requires { ⌜ dataIn ≤ length (now m) ⌝ }
     ensures { λ r. ⌜ r ≡ wideOf (now (m .entry)) ⌝ }
 {

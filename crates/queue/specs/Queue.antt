@@ -3,7 +3,7 @@ use Prim.Native.Nat.{ℕ}
 use mathlib.Core.Bool.{false}
 use lib.ListN.{drop}
 use Rattle.machine.specs.Message.{Rec}
-use Rattle.machine.specs.Channel.{Chan, closed, opened, Receiving, withReceiving, arrive}
+use Rattle.machine.specs.Channel.{Chan, closed, opened, Receiving, arrive}
 
 -- the channel with a record arrived; a closed one as it is
 unfoldable pub arrived : Rec → Chan → Chan

@@ -1,17 +1,16 @@
 -- Write of raw CAN: one message, a loop over messages, and the region of an open channel after it. Assumes nothing.
 use mathlib.Core.Path.{_≡_, refl, sym, ap, ap₂, _∙_, subst}
-use Prim.Native.Nat.{ℕ, zero, suc, _+_, _*_, _-_, _≤_, _<_}
+use Prim.Native.Nat.{ℕ, suc, _+_, _*_, _-_, _≤_, _<_}
 use native.Mathlib.Omega.{arith}
 use mathlib.Core.List.{List, [], _∷_, _++_}
-use lib.ListN.{length, getD, set, take, drop, length-drop}
-use lib.Seq.{take-all, drop-drop}
+use lib.ListN.{length, getD, set, take, drop}
 use lib.Dec.{T}
 use borrow.Author.Tests.{ne-eqb, le-leb, lt-leb, lt-ltb, le-ltb}
 use borrow.Rule.Slice.PartMut.{putMid}
 use Rattle.codec.specs.Plain.{all, isByte}
 use Rattle.codec.specs.Word.{wordAt}
 use Rattle.codec.specs.Code.{such}
-use Rattle.codec.proofs.Lists.{all-drop, part-long}
+use Rattle.codec.proofs.Lists.{part-long}
 use Rattle.codec.proofs.Store.{one-more}
 use Rattle.codec.proofs.Many.{upTo-lawful}
 use Rattle.machine.specs.Codes.{codeOf}
