@@ -4,13 +4,13 @@ use Prim.Native.Nat.{ℕ, _+_, _-_, _≤_, _<_}
 use native.Mathlib.Omega.{arith}
 use mathlib.Core.Bool.{Bool, true, false, _&&_, _||_, not, or-false}
 use mathlib.Core.List.{List, [], _∷_}
-use lib.ListN.{length, take, drop, length-drop}
-use lib.Seq.{drop-drop, take-all, length-take-le}
+use lib.ListN.{length, getD, take, drop, length-drop}
+use lib.Seq.{drop-drop, take-all, length-take-le, getD-take, getD-drop}
 use lib.Dec.{T, eqb, leb, leb→le}
 use Rattle.codec.specs.Plain.{if_then_else_, within, member, allZero}
 use Rattle.codec.specs.Word.{wordAt}
 use Rattle.codec.specs.Code.{Code, byte, word32, both, via, such, many}
-use Rattle.codec.proofs.Tests.{left, right, T-true, and-true, and-false, between, below, above}
+use Rattle.codec.proofs.Tests.{left, right, T-true, and-true, and-false, between, below, above, within-low}
 use Rattle.machine.specs.Limits.{mostData, rxStatusIn, txFlagsIn, timestampIn, sizeIn, extraIndexIn, dataIn}
 use Rattle.machine.specs.Message.{bit, idOf, idLimit, takes, Rec}
 use Rattle.layout.specs.Record.{widthFits}
@@ -152,6 +152,31 @@ module _ (m : List ℕ) (h : length m ≡ isoRecordSize) where
           && (if indication (wordAt rxStatusIn m) then eqb (sym bytes-long i) idSize else leb leastMessage (sym bytes-long i))
           && fits-same flags (bit 0x100 (wordAt rxStatusIn m)) i)
           ∙ sym (ap (isoIncoming flags) rec-got)
+
+    -- a frame in flight: as many bytes as its size, five or more, and the byte behind the identifier
+    module _ (flags : ℕ) (v : T (frameCell flags .valid m)) where
+      is-record : T (rec536 .valid m)
+      unfolding frameCell such
+      is-record = left (rec536 .valid m) (isoOutgoing flags mostData (rec536 .get m)) v
+
+      pub frame-count : length (frameCell flags .get m .bytes) ≡ wordAt sizeIn m
+      unfolding frameCell such isoBack
+      frame-count = ap (λ (r : Rec). length (r .bytes)) rec-got ∙ bytes-long is-record
+
+      pub frame-least : leastMessage ≤ wordAt sizeIn m
+      unfolding frameCell such
+      frame-least =
+          let x : Bool = eqb (wordAt rxStatusIn m) 0 && member (wordAt txFlagsIn m) (0 ∷ 0x100 ∷ []) && eqb (wordAt timestampIn m) 0 in
+          let y : Bool = within leastMessage mostData (wordAt sizeIn m) in
+          let z : Bool = widthFits flags (bit 0x100 (wordAt txFlagsIn m)) (drop dataIn m) in
+          let u : T (isoOutgoing flags mostData (rec536 .get m)) = right (rec536 .valid m) (isoOutgoing flags mostData (rec536 .get m)) v in
+          within-low leastMessage mostData (wordAt sizeIn m) (right x y (left (x && y) z (subst T (sym (outgoing-is is-record flags mostData)) u)))
+
+      pub frame-told : getD (frameCell flags .get m .bytes) idSize 0 ≡ getD m (dataIn + idSize) 0
+      unfolding frameCell such isoBack
+      frame-told =
+          ap (λ (r : Rec). getD (r .bytes) idSize 0) rec-got
+          ∙ getD-take (wordAt sizeIn m) (drop dataIn m) idSize 0 (omega (arith, frame-least)) ∙ getD-drop dataIn m idSize 0
 
 -- a choice of two tests
 pub chosen : (b x y : Bool) → ((b && x) || (not b && y)) ≡ (if b then x else y)

@@ -94,7 +94,7 @@ abbrev pub partsOf : List ℕ → List ℕ → Transferred
 partsOf t b = transferred (getD t transferIn 0) (numberIn countIn t) (numberIn timeIn t) (numberIn leftIn t) (numberIn gapIn t) (eqb 1 (goOnAt t)) b
 
 module _ (t : List ℕ) where
-  plain-got : transferPlain .get (drop transferIn t) ≡ partsOf t (payload508 .get (payloadOf t))
+  pub plain-got : transferPlain .get (drop transferIn t) ≡ partsOf t (payload508 .get (payloadOf t))
   unfolding transferPlain
   plain-got =
       let k : ℕ = getD t transferIn 0 in

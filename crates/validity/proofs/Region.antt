@@ -98,7 +98,7 @@ word-take : (m : List ℕ) → wordAt 0 (take configSize m) ≡ wordAt 0 m
 unfolding wordAt
 word-take m = omega (arith, getD-take 9 m 0 0 (omega arith), getD-take 9 m 1 0 (omega arith), getD-take 9 m 2 0 (omega arith), getD-take 9 m 3 0 (omega arith))
 
-config-key : (m : List ℕ) → config .get (take configSize (drop flagsAt m)) .flags ≡ wordAt flagsAt m
+pub config-key : (m : List ℕ) → config .get (take configSize (drop flagsAt m)) .flags ≡ wordAt flagsAt m
 unfolding config such via
 config-key m = first-word (take configSize (drop flagsAt m)) ∙ word-take (drop flagsAt m) ∙ word-drop 0 flagsAt m
 

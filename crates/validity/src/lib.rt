@@ -22,7 +22,7 @@ const WRITTEN_IN: usize = places::WRITTEN - places::PERIODICS;
 const FLIGHT_IN: usize = places::FLIGHT - places::PERIODICS;
 
 // Flags, rate and loopback mark.
-fn configuration(s: &[u8]) -> bool
+pub fn configuration(s: &[u8]) -> bool
     requires { ⌜ length (now s) ≡ configSize ⌝ }
     ensures { λ r. ⌜ r ≡ config .valid (now (s .entry)) ⌝ }
 {

@@ -1,0 +1,2 @@
+pub mod Flights
+pub mod Ready
