@@ -131,9 +131,16 @@ lain-lies l =
       last-ok = search (left, right) depth 9;
     }
 
-pub lies-lain : {o : OpenIso} {r : List ℕ} → Lies o r → Lain r
+lies-ok : {o : OpenIso} {r : List ℕ} → Lies o r → T (bothOn (λ c. c .flags) config isoRest .ok (readyParts o))
 unfolding bothOn isoRest both
-lies-lain {o} l = record { channel = o; ok = search (join, l .config-ok, l .talks-ok, l .written-ok, l .flight-ok, l .heard-ok, l .last-ok) depth 9; bytes = l .bytes }
+lies-ok l = search (join, l .config-ok, l .talks-ok, l .written-ok, l .flight-ok, l .heard-ok, l .last-ok) depth 9
+
+pub lies-lain : {o : OpenIso} {r : List ℕ} → Lies o r → Lain r
+lies-lain {o} l = record { channel = o; ok = lies-ok l; bytes = l .bytes }
+
+-- what `disown` says, of a channel that lies there
+pub of-lies : {o : OpenIso} {r : List ℕ} → Lies o r → {ys : List ℕ} → ((l : Lain r) → ys ≡ isoRegion .put (ready (disowned (l .channel)))) → ys ≡ isoRegion .put (ready (disowned o))
+of-lies {o} l y = y (record { channel = o; ok = lies-ok l; bytes = l .bytes })
 
 module _ {r : List ℕ} (l : Lain r) where
   abbrev o : OpenIso
