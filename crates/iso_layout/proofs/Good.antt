@@ -1,21 +1,18 @@
 -- What the region of an open ISO 15765 channel can hold, part by part, and how its conversations and its flight hang together. Assumes nothing.
-use mathlib.Core.Path.{_≡_, refl, sym, ap, _∙_, subst}
-use Prim.Native.Nat.{ℕ, zero, suc, _+_, _≤_, _<_}
+use mathlib.Core.Path.{_≡_, refl, sym, subst}
+use Prim.Native.Nat.{ℕ, suc, _+_}
 use native.Mathlib.Omega.{arith}
-use mathlib.Core.Logic.{_⊎_, inl, inr}
 use mathlib.Core.Bool.{Bool, true, false, _&&_, _||_, not}
 use mathlib.Core.Option.{Option, none, some}
-use mathlib.Core.List.{List, [], _∷_}
-use lib.ListN.{length, getD, set, drop}
+use mathlib.Core.List.{[], _∷_}
+use lib.ListN.{length, getD}
 use lib.Dec.{T, eqb, eqb→eq}
 use Rattle.codec.specs.Plain.{if_then_else_, all}
-use Rattle.codec.specs.Code.{Code, both, bothOn, via, such, many, slot, upTo}
-use Rattle.codec.proofs.Tests.{left, right, join, or-either, or-right}
+use Rattle.codec.specs.Code.{both, bothOn, via, such, many, slot, upTo}
+use Rattle.codec.proofs.Tests.{left, right, join}
 use Rattle.codec.proofs.Lawful.{mark-ok}
 use Rattle.codec.proofs.Many.{many-count, many-each, many-make}
-use Rattle.machine.specs.Message.{Rec}
 use Rattle.machine.specs.Filter.{Slots, anySlot}
-use Rattle.machine.specs.Channel.{Receiving}
 use Rattle.iso.specs.Limits.{mostTalks, mostMessages, mostHeard}
 use Rattle.iso.specs.Iso.{Transfer, Talk, Owner, nobody, message, transferAt, Flight, OpenIso, Iso, shut, ready, turned, knows, transmitting, airborne, airborneAt, ownerIn, flightIn}
 use Rattle.layout.specs.Memory.{config}
@@ -176,7 +173,7 @@ less-knows gone m t = absurd t
 less-knows (turns x p q) gone t = absurd t
 less-knows (turns x p q) (turns y r s) t = t
 
-not-more : (p q : Bool) → (T q → T p) → T (not p) → T (not q)
+pub not-more : (p q : Bool) → (T q → T p) → T (not p) → T (not q)
 not-more true q f t = absurd t
 not-more false true f t = absurd (f tt)
 not-more false false f t = tt

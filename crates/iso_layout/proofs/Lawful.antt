@@ -1,25 +1,24 @@
 -- The region of an ISO 15765 channel is a lawful code: what is put is got back, and valid bytes are what is put of what is got. Assumes nothing.
-use mathlib.Core.Path.{_≡_, refl, sym, ap, _∙_, subst}
+use mathlib.Core.Path.{_≡_, refl, sym, ap, _∙_}
 use Prim.Native.Nat.{ℕ, zero, suc, _+_, _-_, _≤_}
 use native.Mathlib.Omega.{arith}
-use mathlib.Core.Bool.{Bool, true, false, _&&_, not}
+use mathlib.Core.Bool.{Bool, true, false, not}
 use mathlib.Core.Option.{Option, none, some}
 use mathlib.Core.List.{List, [], _∷_, _++_, append-assoc}
 use lib.ListN.{length, take, drop, length-drop, take-append-drop}
 use lib.Seq.{take-at, length-take-le}
-use lib.Dec.{T, eqb, leb, ltb, eqb→eq, leb→le}
-use Rattle.codec.specs.Plain.{within, member, zeros, allZero}
-use Rattle.codec.specs.Word.{word}
-use Rattle.codec.specs.Code.{Code, byte, word32, both, bothOn, via, such, mark, many, slot, upTo}
-use Rattle.codec.proofs.Tests.{left, right, join}
+use lib.Dec.{T, eqb, leb, eqb→eq, leb→le}
+use Rattle.codec.specs.Plain.{within, zeros, allZero}
+use Rattle.codec.specs.Code.{Code, byte, word32, both, bothOn, via, such, many, slot, upTo}
+use Rattle.codec.proofs.Tests.{left, right}
 use Rattle.codec.proofs.Lists.{zeros-of}
-use Rattle.codec.proofs.Lawful.{Lawful, byte-lawful, word-lawful, both-lawful, bothOn-lawful, via-lawful, such-lawful, mark-lawful, such-test, such-under, both-first, both-second}
+use Rattle.codec.proofs.Lawful.{Lawful, byte-lawful, word-lawful, both-lawful, bothOn-lawful, via-lawful, such-lawful, mark-lawful, such-test, such-under, both-second}
 use Rattle.codec.proofs.Many.{many-lawful, many-count, slot-lawful, upTo-lawful}
-use Rattle.machine.specs.Message.{bit, Rec}
+use Rattle.machine.specs.Message.{Rec}
 use Rattle.iso.specs.Limits.{isoProtocol, mostTalks, mostMessages, mostHeard, isoData, mostPayload}
-use Rattle.iso.specs.Iso.{Stage, opens, awaits, flies, sends, Transfer, idle, refuses, receives, transmits, Talk, Owner, nobody, message, transferAt, Flight, OpenIso, Iso, shut, ready, extraOf, padded, shownIso, isoCodes}
+use Rattle.iso.specs.Iso.{Stage, opens, awaits, flies, sends, Transfer, idle, refuses, receives, transmits, Owner, nobody, message, transferAt, OpenIso, Iso, shut, ready, extraOf, padded, shownIso}
 use Rattle.layout.specs.Memory.{config}
-use Rattle.iso_layout.specs.Region.{IsoParts, indication, extraIs, isoParts, isoBack, isoFits, rec536, isoOutgoing, isoIncoming, messageCell, frameCell, heardCell, payloadParts, payloadBack, payloadFits, payload508, Transferred, transferred, stageParts, transferParts, transmitsAt, transferOn, transferBack, still, paced, kindFits, transferFits, transferPlain, transferCode, talkParts, talkBack, talkFits, talkCell, talksCode, ownerParts, ownerBack, flightParts, flightBack, ownedFits, flightCode, heardParts, heardBack, heardPart, isoLastPart, IsoRest, readyParts, readyBack, isoRest, linked, readyPart, isoChanParts, isoChanBack, isoRegion}
+use Rattle.iso_layout.specs.Region.{IsoParts, indication, extraIs, isoParts, isoBack, isoFits, rec536, messageCell, frameCell, heardCell, payloadParts, payloadBack, payloadFits, payload508, Transferred, transferred, stageParts, transferParts, transmitsAt, transferOn, transferBack, kindFits, transferFits, transferPlain, transferCode, talkParts, talkBack, talkFits, talkCell, talksCode, ownerParts, ownerBack, flightParts, flightBack, ownedFits, flightCode, heardParts, heardBack, heardPart, isoLastPart, readyParts, readyBack, isoRest, linked, readyPart, isoChanParts, isoChanBack, isoRegion}
 use Rattle.layout.proofs.Memory.{config-lawful, bytes-put}
 
 -- ---- bytes with zeros after them
@@ -73,15 +72,15 @@ rec536-lawful =
 
 pub message-lawful : (flags : ℕ) → Lawful (messageCell flags)
 unfolding messageCell
-message-lawful flags = such-lawful (isoOutgoing flags isoData) rec536-lawful
+message-lawful flags = such-lawful _ rec536-lawful
 
 pub frame-lawful : (flags : ℕ) → Lawful (frameCell flags)
 unfolding frameCell
-frame-lawful flags = such-lawful (isoOutgoing flags 12) rec536-lawful
+frame-lawful flags = such-lawful _ rec536-lawful
 
 pub heard-lawful : (flags : ℕ) → Lawful (heardCell flags)
 unfolding heardCell
-heard-lawful flags = such-lawful (isoIncoming flags) rec536-lawful
+heard-lawful flags = such-lawful _ rec536-lawful
 
 -- the 536 bytes that the machine gives out are those that the memory holds
 pub shownIso-is : (r : Rec) → shownIso r ≡ rec536 .put r
@@ -92,7 +91,7 @@ shownIso-is r = rw (bytes-put (padded (r .bytes))) (simp append-assoc)
 
 payload-back : (b : List ℕ) → payloadBack (payloadParts b) ≡ b
 unfolding payloadBack payloadParts
-payload-back b = take-at b (zeros (508 - length b)) (length b) refl
+payload-back b = take-at b (zeros (mostPayload - length b)) (length b) refl
 
 payload-there : (p : ℕ × List ℕ) → T (such payloadFits (both word32 (many mostPayload byte)) .ok p) → payloadParts (payloadBack p) ≡ p
 unfolding payloadParts payloadBack payloadFits such
@@ -206,7 +205,7 @@ heardPart-lawful flags = via-lawful heardParts heardBack (λ r t. refl) (λ p t.
 
 pub last-lawful : Lawful isoLastPart
 unfolding isoLastPart
-last-lawful = such-lawful (λ n. member n isoCodes) byte-lawful
+last-lawful = such-lawful _ byte-lawful
 
 pub isoRest-lawful : (flags : ℕ) → Lawful (isoRest flags)
 unfolding isoRest

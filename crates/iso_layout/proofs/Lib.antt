@@ -4,3 +4,7 @@ pub mod Held
 pub mod Good
 pub mod Places
 pub mod Region
+pub mod Hearing
+pub mod Taking
+pub mod Calls
+pub mod Limits

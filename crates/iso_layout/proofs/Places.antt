@@ -2,23 +2,19 @@
 use mathlib.Core.Path.{_≡_, refl, ap, ap₂}
 use Prim.Native.Nat.{ℕ, _+_, _*_, _<_}
 use native.Mathlib.Omega.{arith}
-use mathlib.Core.Bool.{Bool}
 use mathlib.Core.Option.{Option, none, some}
-use mathlib.Core.List.{List, [], _∷_, _++_}
-use lib.ListN.{length, getD, set}
+use mathlib.Core.List.{List, _++_}
+use lib.ListN.{getD, set}
 use lib.Dec.{T}
-use Rattle.codec.specs.Plain.{all}
-use Rattle.codec.specs.Word.{word}
-use Rattle.codec.specs.Code.{Code, byte, word32, both, bothOn, via, such, mark, many, slot, upTo}
-use Rattle.codec.proofs.Tests.{left, right}
+use Rattle.codec.specs.Code.{Code, both, bothOn, via, such, mark, many, slot, upTo}
 use Rattle.codec.proofs.Many.{many-count, many-each, slot-lawful, upTo-lawful}
 use Rattle.codec.proofs.Place.{Place, inside, at, in-first, in-second, in-on-first, in-on-second, in-such, in-via, in-slot, in-many}
 use Rattle.machine.specs.Message.{Rec}
 use Rattle.machine.specs.Filter.{Slots}
 use Rattle.machine.specs.Channel.{Receiving}
-use Rattle.iso.specs.Iso.{Talk, Transfer, turned, Flight, OpenIso, ready, setTalks, setConfig, setWritten, setFlight, setReceiving, setLast}
+use Rattle.iso.specs.Iso.{Talk, Flight, OpenIso, ready, setTalks, setConfig, setWritten, setFlight, setReceiving, setLast}
 use Rattle.layout.specs.Memory.{config}
-use Rattle.iso_layout.specs.Region.{messageCell, frameCell, heardCell, transferCode, talkParts, talkBack, talkFits, talkCell, talksCode, flightCode, heardParts, heardBack, heardPart, isoLastPart, IsoRest, readyParts, readyBack, isoRest, linked, readyPart, isoChanParts, isoChanBack, isoRegion}
+use Rattle.iso_layout.specs.Region.{messageCell, frameCell, heardCell, talkCell, talksCode, flightCode, heardParts, heardBack, heardPart, isoLastPart, IsoRest, readyParts, readyBack, isoRest, linked, readyPart, isoChanParts, isoChanBack, isoRegion}
 use Rattle.layout.proofs.Memory.{config-lawful}
 use Rattle.iso_layout.proofs.Lawful.{iso-chan-there, talk-lawful, talks-lawful, message-lawful, flight-lawful, heard-lawful, heardPart-lawful}
 use Rattle.layout.proofs.Sizes.{config-size}

@@ -2,11 +2,14 @@
 -- nothing.
 use mathlib.Core.Path.{_≡_, refl, sym, ap, _∙_, subst}
 use Prim.Native.Nat.{ℕ, suc, _+_, _*_, _<_}
+use native.Mathlib.Omega.{arith}
 use mathlib.Core.Option.{none}
-use mathlib.Core.List.{List}
-use lib.ListN.{length, getD, set, drop}
+use mathlib.Core.List.{List, [], _∷_, _++_, append-assoc}
+use lib.ListN.{length, getD, set, drop, length-append}
+use lib.Seq.{set-append-seam}
 use lib.Dec.{T}
-use Rattle.codec.specs.Code.{via, such, slot, getSlot, upTo, both, bothOn}
+use Rattle.codec.specs.Plain.{zeros}
+use Rattle.codec.specs.Code.{byte, via, such, slot, getSlot, upTo, both, bothOn}
 use Rattle.codec.proofs.Tests.{join}
 use Rattle.codec.proofs.Lists.{all-at}
 use Rattle.codec.proofs.Many.{many-each, slot-lawful, upTo-lawful}
@@ -18,14 +21,38 @@ use Rattle.layout.specs.Promise.{gives}
 use Rattle.layout.proofs.Memory.{config-lawful}
 use Rattle.layout.proofs.Sizes.{config-size}
 use Rattle.iso.specs.Limits.{mostTalks, mostMessages}
-use Rattle.iso.specs.Iso.{OpenIso, Iso, ready, setTalks, setConfig, setWritten, setFlight, setReceiving, setLast, onReady, onIsoCall}
+use Rattle.iso.specs.Iso.{OpenIso, Iso, shut, ready, setTalks, setConfig, setWritten, setFlight, setReceiving, setLast, isReady, onReady, onIsoCall, isoNotes}
 use Rattle.iso_layout.specs.Sizes.{talkSize, talksSize, messagesSize, isoFlightSize, heardSize, talksAt, messagesAt, isoFlightAt, heardAt, isoLastAt, isoRegionSize}
 use Rattle.iso_layout.specs.Region.{messageCell, talkCell, talksCode, flightCode, heardPart, isoLastPart, readyParts, isoRest, readyPart, isoChanBack, isoRegion}
 use Rattle.iso_layout.specs.Promise.{IsoOpened, isoGives, isoOutcome}
-use Rattle.iso_layout.proofs.Sizes.{slot-size, talks-size, messages-size, isoFlight-size, heardPart-size, isoLast-size, parts-size, isoRegion-size}
+use Rattle.iso_layout.proofs.Sizes.{slot-size, talks-size, messages-size, isoFlight-size, heardPart-size, isoLast-size, parts-size, isoRegion-size, shut-zeros}
 use Rattle.iso_layout.proofs.Lawful.{talk-lawful, talks-lawful, message-lawful, flight-lawful, heardPart-lawful, last-lawful, parts-lawful, isoRegion-lawful}
 use Rattle.iso_layout.proofs.Good.{FineIso, fli, GoodIso, iso-good, good-talks, good-heard}
 use Rattle.iso_layout.proofs.Places.{iso-config-place, talks-place, talk-place, messages-place, flight-place, receiving-place, last-place}
+
+-- ---- a closed channel's region, and an open one's
+
+module _ (r : List ℕ) (long : length r ≡ isoRegionSize) (v : T (isoRegion .valid r)) where
+  pub again : isoRegion .put (isoRegion .get r) ≡ r
+  again = isoRegion-lawful .put-get r (long ∙ sym isoRegion-size) v
+
+  -- by the first byte
+  pub is-shut : getD r 0 0 ≡ 0 → isoRegion .get r ≡ shut
+  unfolding isoRegion via slot
+  is-shut e = ap (λ (k : ℕ). isoChanBack (getSlot readyPart k (drop 1 r))) e
+
+  pub shut-bytes : getD r 0 0 ≡ 0 → r ≡ zeros isoRegionSize
+  shut-bytes e = sym again ∙ ap (isoRegion .put) (is-shut e) ∙ shut-zeros
+
+  pub not-shut : (getD r 0 0 ≡ 0 → ⊥) → IsoOpened r
+  unfolding isoRegion via slot
+  not-shut n =
+      let first : getD (isoRegion .put (isoRegion .get r)) 0 0 ≡ getD r 0 0 = ap (λ (x : List ℕ). getD x 0 0) again in
+      record { long = long; valid = v; mark = sym first ∙ one (isoRegion .get r) (λ z. n (sym first ∙ z)) }
+    where
+      one : (c : Iso) → (getD (isoRegion .put c) 0 0 ≡ 0 → ⊥) → getD (isoRegion .put c) 0 0 ≡ 1
+      one shut n = absurd (n refl)
+      one (ready o) n = refl
 
 -- what an open channel's region holds
 abbrev pub readyOf : List ℕ → OpenIso
@@ -130,3 +157,29 @@ module _ (o : OpenIso) (t : FineIso (ready o)) where
 
   pub ready-again : readyOf (isoRegion .put (ready o)) ≡ o
   ready-again = let e : ready (readyOf (isoRegion .put (ready o))) ≡ ready o = sym (is-ready (isoRegion .put (ready o)) opened-again) ∙ isoRegion-lawful .get-put (ready o) t in cc e
+
+-- ---- a code that is noted
+
+-- what stands in front of the last code of an open channel
+abbrev front : OpenIso → List ℕ
+front o =
+    1 ∷ (config .put (o .config) ++ (talksCode (fli o) .put (o .talks) ++ (upTo mostMessages (messageCell (fli o)) .put (o .written) ++ (slot (flightCode (fli o)) .put (o .flight) ++ heardPart (fli o) .put (o .receiving)))))
+
+-- the last code is the last byte of the region
+ends-in-last : (o : OpenIso) (k : ℕ) → isoRegion .put (ready (setLast o k)) ≡ front o ++ k ∷ []
+unfolding isoRegion readyPart isoRest isoLastPart via such both bothOn slot byte setLast
+ends-in-last o k = sym (simp append-assoc)
+
+-- another one stored there, whatever else the channel holds
+pub iso-last-stored : (o : OpenIso) (k : ℕ) → length (isoRegion .put (ready o)) ≡ isoRegionSize → set (isoRegion .put (ready o)) isoLastAt k ≡ isoRegion .put (ready (setLast o k))
+unfolding setLast
+iso-last-stored o k long =
+    let e : isoRegion .put (ready o) ≡ front o ++ o .last ∷ [] = ends-in-last o (o .last) in
+    let n : length (front o) ≡ isoLastAt = omega (arith, ap length e, length-append (front o) (o .last ∷ [])) in
+    ap (λ (r : List ℕ). set r isoLastAt k) e ∙ ap (λ (i : ℕ). set (front o ++ o .last ∷ []) i k) (sym n) ∙ set-append-seam (front o) (o .last) [] k ∙ sym (ends-in-last o k)
+
+-- so a code of an open channel, but 0x00, is noted by a store
+pub iso-notes-stored : (c : Iso) (k : ℕ) → T (isReady c) → length (isoRegion .put c) ≡ isoRegionSize → set (isoRegion .put c) isoLastAt (suc k) ≡ isoRegion .put (isoNotes (suc k) c)
+unfolding isReady isoNotes
+iso-notes-stored shut k t long = absurd t
+iso-notes-stored (ready o) k t long = iso-last-stored o (suc k) long

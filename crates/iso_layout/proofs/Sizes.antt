@@ -1,14 +1,17 @@
 -- The numbers of docs/LAYOUT.md for the region of an ISO 15765 channel, checked: the size of each part by its code, and where each row of its tables
 -- begins. Assumes nothing.
-use mathlib.Core.Path.{_≡_, refl}
-use Prim.Native.Nat.{ℕ, suc, _+_, _*_}
-use mathlib.Core.List.{List, [], _∷_}
+use mathlib.Core.Path.{_≡_, refl, ap}
+use Prim.Native.Nat.{ℕ, suc, _+_, _-_}
+use mathlib.Core.List.{List, [], _∷_, _++_}
+use Rattle.codec.specs.Plain.{zeros}
+use Rattle.codec.specs.Word.{word}
 use Rattle.codec.specs.Code.{byte, word32, both, bothOn, via, such, mark, many, slot, upTo}
 use Rattle.machine.specs.Limits.{rxStatusIn, txFlagsIn, timestampIn, sizeIn, extraIndexIn, dataIn}
 use Rattle.layout.specs.Memory.{config}
 use Rattle.layout.specs.Sizes.{numberSize, flagsAt, rateAt, loopbackAt}
 use Rattle.layout.proofs.Sizes.{rows}
-use Rattle.iso.specs.Limits.{mostTalks, mostMessages, mostHeard, isoData, isoRecordSize}
+use Rattle.iso.specs.Limits.{mostMessages, mostHeard, mostPayload, isoData, isoRecordSize}
+use Rattle.iso.specs.Iso.{shut, ready, noTalks, freshIso}
 use Rattle.iso_layout.specs.Sizes.{payloadSize, countIn, timeIn, leftIn, gapIn, goOnIn, payloadIn, transferSize, patternIn, flowIn, transferIn, talkSize, talksSize, messagesSize, isoFlightSize, heardSize, talksAt, messagesAt, isoFlightAt, heardAt, isoLostAt, isoLastAt, isoRegionSize}
 use Rattle.iso_layout.specs.Region.{rec536, messageCell, frameCell, heardCell, payload508, transferPlain, transferCode, talkCell, talksCode, flightCode, heardPart, isoLastPart, isoRest, readyPart, isoRegion}
 
@@ -39,6 +42,13 @@ abbrev pub talkNames : List ℕ
 talkNames =
     0 ∷ 1 ∷ patternIn ∷ flowIn ∷ transferIn ∷ (transferIn + countIn) ∷ (transferIn + timeIn) ∷ (transferIn + leftIn) ∷ (transferIn + gapIn) ∷ (transferIn + goOnIn)
     ∷ (transferIn + payloadIn) ∷ (transferIn + payloadIn + numberSize) ∷ talkSize ∷ []
+
+pub talk-fields : rows 0
+    (1 ∷ mark .size ∷ word32 .size ∷ word32 .size ∷ byte .size ∷ word32 .size ∷ word32 .size ∷ word32 .size ∷ word32 .size ∷ mark .size
+    ∷ word32 .size ∷ many mostPayload byte .size ∷ [])
+    ≡ talkNames
+unfolding mark many via such word32 byte
+talk-fields = refl
 
 pub talk-numbers : talkNames ≡ 0 ∷ 1 ∷ 2 ∷ 6 ∷ 10 ∷ 11 ∷ 15 ∷ 19 ∷ 23 ∷ 27 ∷ 28 ∷ 32 ∷ 540 ∷ []
 talk-numbers = refl
@@ -109,6 +119,22 @@ pub parts-size : suc (bothOn (λ c. c .flags) config isoRest .size) ≡ isoRegio
 unfolding isoRest bothOn config heardPart isoLastPart flightCode talksCode talkCell transferCode transferPlain payload508 heardCell frameCell messageCell rec536 mark via such both many slot upTo word32 byte
 parts-size = refl
 
+pub ready-size : readyPart .size ≡ isoLastAt
+unfolding readyPart isoRest bothOn config heardPart isoLastPart flightCode talksCode talkCell transferCode transferPlain payload508 heardCell frameCell messageCell rec536 mark via such both many slot upTo word32 byte
+ready-size = refl
+
 pub isoRegion-size : isoRegion .size ≡ isoRegionSize
-unfolding isoRegion readyPart isoRest bothOn config heardPart isoLastPart flightCode talksCode talkCell transferCode transferPlain payload508 heardCell frameCell messageCell rec536 mark via such both many slot upTo word32 byte
-isoRegion-size = refl
+unfolding isoRegion via slot
+isoRegion-size = ap (λ (n : ℕ). 1 + n) ready-size
+
+-- ---- the bytes of a closed channel and of a fresh one
+
+-- a closed channel's region is zeros
+pub shut-zeros : isoRegion .put shut ≡ zeros isoRegionSize
+unfolding isoRegion via slot
+shut-zeros = ap {B = List ℕ} (λ (n : ℕ). 0 ∷ zeros n) ready-size
+
+-- a fresh channel's region: the mark, the flags, the rate, zeros
+pub fresh-iso-is : (flags rate : ℕ) → isoRegion .put (ready (freshIso flags rate)) ≡ 1 ∷ (word flags ++ (word rate ++ zeros (isoRegionSize - loopbackAt)))
+unfolding freshIso noTalks isoRegion readyPart isoRest bothOn config heardPart isoLastPart flightCode talksCode talkCell transferCode transferPlain payload508 heardCell frameCell messageCell rec536 mark via such both many slot upTo word32 byte word
+fresh-iso-is flags rate = refl

@@ -8,11 +8,12 @@ use lib.ListN.{length, getD, drop}
 use lib.Dec.{eqb, leb, ltb}
 use Rattle.codec.specs.Plain.{within, member}
 use Rattle.codec.specs.Code.{Code, byte, word32, both, bothOn, via, such, mark, many, slot, upTo}
+use Rattle.machine.specs.Limits.{mostData}
 use Rattle.machine.specs.Message.{takes, idLimit, Rec}
 use Rattle.machine.specs.Filter.{Slots, anySlot}
 use Rattle.machine.specs.Channel.{Config, Receiving}
 use Rattle.layout.specs.Memory.{config}
-use Rattle.iso.specs.Limits.{mostTalks, mostMessages, mostHeard, mostPayload, leastSegmented, inFirst, inNext, second, longestGap}
+use Rattle.iso.specs.Limits.{mostTalks, mostMessages, mostHeard, idSize, leastMessage, mostPayload, leastSegmented, inFirst, inNext, second, longestGap}
 use Rattle.iso.specs.Iso.{Reception, Stage, opens, awaits, flies, sends, Transmission, Transfer, idle, refuses, receives, transmits, Talk, Owner, nobody, message, transferAt, Flight, OpenIso, Iso, shut, ready, knows, transmitting, airborneAt, isoCodes}
 pub use Rattle.iso_layout.specs.Record.{IsoParts}
 unfoldable pub use Rattle.iso_layout.specs.Record.{indication, extraIs, isoParts, isoBack, isoFits, rec536, isoOutgoing, isoIncoming, messageCell, frameCell, heardCell, payloadParts, payloadBack, payloadFits, payload508}
@@ -138,7 +139,9 @@ flightBack p = record { frame = p .1; owner = ownerBack (p .0) }
 
 -- the frame of a single-frame message tells how many bytes follow
 unfoldable pub ownedFits : ℕ × Rec → Bool
-ownedFits p = leb (p .0) 3 && (not (eqb (p .0) 1) || within 6 12 (length (p .1 .bytes)) && eqb (getD (p .1 .bytes) 4 0) (length (p .1 .bytes) - 5))
+ownedFits p =
+    leb (p .0) (suc mostTalks)
+    && (not (eqb (p .0) 1) || within (suc leastMessage) mostData (length (p .1 .bytes)) && eqb (getD (p .1 .bytes) idSize 0) (length (p .1 .bytes) - suc idSize))
 
 unfoldable pub flightCode : ℕ → Code Flight
 flightCode flags = via flightParts flightBack (such ownedFits (both byte (frameCell flags)))

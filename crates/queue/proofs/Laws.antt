@@ -9,8 +9,6 @@ use lib.Dec.{T, eqb}
 use borrow.Rule.Slice.PartMut.{putMid}
 use borrow.Author.Tests.{lt-ltb, le-ltb}
 use Rattle.codec.specs.Plain.{zeros}
-use Rattle.codec.specs.Code.{byte, via, such, mark}
-use Rattle.codec.proofs.Lawful.{mark-lawful, mark-ok}
 use Rattle.machine.specs.Limits.{recordSize, mostToRead}
 use Rattle.machine.specs.Message.{Rec}
 use Rattle.machine.specs.Channel.{Open, Receiving, withReceiving, arrive}
@@ -22,7 +20,7 @@ use Rattle.layout.proofs.Memory.{receiving-lawful}
 use Rattle.layout.proofs.Sizes.{receiving-size}
 use Rattle.layout.proofs.Region.{openOf, Part, is-open, receiving-part}
 use Rattle.queue.specs.Queue.{arrived, withoutOldest}
-use Rattle.queue.proofs.Bytes.{few, count-is, lost-is, one-more, one-lost, oldest-gone}
+use Rattle.queue.proofs.Bytes.{count-is, count-few, lost-is, one-more, one-lost, oldest-gone}
 
 -- ---- a receiving part by itself
 
@@ -36,17 +34,13 @@ module _ (flags : ℕ) (q : List ℕ) (long : length q ≡ receivingSize) (v : T
   part-put : receivingPart flags .put part-of ≡ q
   part-put = receiving-lawful flags .put-get q (long ∙ sym (receiving-size flags)) v
 
-  count : getD q 0 0 ≡ length (part-of .queue)
-  count = ap (λ (m : List ℕ). getD m 0 0) (sym part-put) ∙ count-is flags part-of part-ok
-
   -- what `drop_oldest` leaves
   pub left-behind : (m : ℕ) (ys : List ℕ) → m ≤ getD q 0 0 → ys ≡ drop (m * recordSize) (take (1 + getD q 0 0 * recordSize - 1) (drop 1 q)) ++ zeros (m * recordSize)
       → set (set (putMid 1 (1 + getD q 0 0 * recordSize - 1) q ys) 0 (getD q 0 0 - m)) queueSize 0 ≡ receivingPart flags .put (withoutOldest m part-of)
   unfolding withoutOldest
   left-behind m ys h e =
-      let k : 1 + getD q 0 0 * recordSize - 1 ≡ length (part-of .queue) * recordSize = omega (arith, count) in
-      (λ i. set (set (putMid 1 (k i) (sym part-put i) ys) 0 (count i - m)) queueSize 0)
-      ∙ oldest-gone flags part-of part-ok m ys (omega (arith, count)) (e ∙ ap₂ (λ (j : ℕ) (b : List ℕ). drop (m * recordSize) (take j (drop 1 b)) ++ zeros (m * recordSize)) k (sym part-put))
+      let n = count-is flags part-of (sym part-put) part-ok in
+      oldest-gone flags part-of (sym part-put) part-ok m (1 + getD q 0 0 * recordSize - 1) (getD q 0 0 - m) (omega arith) (omega arith) e (omega arith)
 
 -- ---- on the region of an open channel
 
@@ -71,11 +65,10 @@ module _ (r : List ℕ) (f : Opened r) where
 
   -- the count and the lost mark
   pub held : getD q 0 0 ≡ length xs
-  held = ap (λ (m : List ℕ). getD m 0 0) (part .is) ∙ count-is fl (o .receiving) fine
+  held = count-is fl (o .receiving) (part .is) fine
 
   pub lost : eqb 1 (getD q queueSize 0) ≡ o .receiving .lost
-  unfolding mark via such byte
-  lost = ap (λ (m : List ℕ). eqb 1 (getD m queueSize 0)) (part .is) ∙ ap (eqb 1) (lost-is fl (o .receiving) fine) ∙ mark-lawful .get-put (o .receiving .lost) (mark-ok (o .receiving .lost))
+  lost = lost-is fl (o .receiving) (part .is) fine
 
   -- ---- a record arrives
 
@@ -86,7 +79,7 @@ module _ (r : List ℕ) (f : Opened r) where
   pub is-lost : (y : Rec) → mostToRead ≤ getD q 0 0 → putMid receivingAt receivingSize r (set q queueSize 1) ≡ region .put (arrived y (region .get r))
   unfolding arrive
   is-lost y h =
-      part .becomes (set q queueSize 1) (record { queue = xs; lost = true }) (ap (λ (m : List ℕ). set m queueSize 1) (part .is) ∙ one-lost fl (o .receiving) fine)
+      part .becomes (set q queueSize 1) (record { queue = xs; lost = true }) (one-lost fl (o .receiving) (part .is) fine)
       ∙ ap (region .put) (sym (is-arrived y ∙ rw (le-ltb (length xs) mostToRead (omega (arith, held))) refl))
 
   pub is-last : (y : Rec) (ys : List ℕ) → getD q 0 0 < mostToRead → ys ≡ rec36 .put y
@@ -94,17 +87,17 @@ module _ (r : List ℕ) (f : Opened r) where
   unfolding arrive
   is-last y ys h e =
       let at : ℕ = 1 + getD q 0 0 * recordSize in
-      let size : at + recordSize - at ≡ recordSize = omega arith in
-      let small : length xs < mostToRead = omega (arith, held) in
+      let n : getD q 0 0 ≡ length xs = held in
+      let small : length xs < mostToRead = omega arith in
       part .becomes _ (record { queue = xs ++ y ∷ []; lost = o .receiving .lost })
-      ((λ i. set (putMid (1 + held i * recordSize) (size i) (part .is i) ys) 0 (held i + 1)) ∙ one-more fl (o .receiving) fine y ys small e)
+      (one-more fl (o .receiving) (part .is) fine y at (at + recordSize - at) (getD q 0 0 + 1) small e (omega arith) (omega arith) (omega arith))
       ∙ ap (region .put) (sym (is-arrived y ∙ rw (lt-ltb (length xs) mostToRead small) refl))
 
   -- ---- the oldest go
 
   -- what `drop_oldest` asks
   pub part-lent : (m : ℕ) → m ≤ getD q 0 0 → (length q ≡ receivingSize) × (m ≤ getD q 0 0) × (getD q 0 0 ≤ mostToRead)
-  part-lent m h = (part .long, h, omega (arith, held, few fl (o .receiving) fine))
+  part-lent m h = (part .long, h, count-few fl (o .receiving) (part .is) fine)
 
   -- the region without the m oldest
   pub without : (m : ℕ) (ys : List ℕ) → ys ≡ receivingPart fl .put (withoutOldest m (receivingPart fl .get q)) → putMid receivingAt receivingSize r ys ≡ region .put (withReceiving o (drop m xs) false)

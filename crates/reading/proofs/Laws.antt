@@ -1,5 +1,5 @@
 -- Reading, on the region of an open channel: the machine's answers. Assumes nothing.
-use mathlib.Core.Path.{_≡_, refl, sym, ap, ap₂, _∙_}
+use mathlib.Core.Path.{_≡_, refl, sym, ap, _∙_}
 use Prim.Native.Nat.{ℕ, _+_, _*_, _-_, _≤_, _<_, min}
 use native.Mathlib.Omega.{arith}
 use mathlib.Core.Bool.{Bool, false}
@@ -74,7 +74,7 @@ module _ (r : List ℕ) (f : Opened r) where
         let j′ : 1 + m * recordSize - 1 ≡ m * recordSize = omega arith in
         let k′ : m * recordSize - 0 ≡ recordSize * m = omega arith in
         let given : bs ≡ shownAll (take m xs) =
-        eb ∙ ap₂ (λ (j : ℕ) (x : List ℕ). take j (drop 1 x)) j′ (part r f .is) ∙ oldest-out fl (o .receiving) (fine r f) m (omega arith) in
+        eb ∙ ap (λ (j : ℕ). take j (drop 1 q)) j′ ∙ oldest-out fl (o .receiving) (part r f .is) (fine r f) m (omega arith) in
         (λ i. gives (c′ i) m (given i ++ drop (k′ i) b) (putMid receivingAt receivingSize r ys))
         ∙ moves r f rates now (read n b) (withReceiving o (drop m xs) false) (readCode (o .receiving .lost) n m) m (shownAll (take m xs) ++ drop (recordSize * m) b) (putMid receivingAt receivingSize r ys)
         (rw (le-ltb (length b) (recordSize * n) s) (rw (ne-eqb n 0 z) (rw (sym m′) refl))) (without r f m ys ey)

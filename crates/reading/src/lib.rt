@@ -16,14 +16,14 @@ use places::RECORD;
 const LOST_IN: usize = QUEUE_SIZE;
 
 // The smaller of two numbers.
-fn fewest(a: u32, b: u32) -> u32
+pub fn fewest(a: u32, b: u32) -> u32
     ensures { λ r. ⌜ r ≡ min a b ⌝ }
 {
     if a < b { a } else { b }
 }
 
 // The code of a read that was asked for n records and gave m.
-fn read_code(lost: u8, n: u32, m: u32) -> u32
+pub fn read_code(lost: u8, n: u32, m: u32) -> u32
     ensures { λ r. ⌜ r ≡ readCode (eqb 1 lost) n m ⌝ }
 {
     if 1 == lost {

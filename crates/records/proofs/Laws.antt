@@ -1,4 +1,4 @@
--- The 36 bytes of a record as code writes them: six numbers, then data and zeros. Assumes nothing.
+-- The bytes of a record as code writes them: six numbers, then data and zeros. Assumes nothing.
 use mathlib.Core.Path.{_≡_, refl, sym, ap, ap₂, _∙_}
 use Prim.Native.Nat.{ℕ, _+_, _-_, _≤_}
 use native.Mathlib.Omega.{arith}
@@ -8,7 +8,7 @@ use lib.Seq.{take-at, drop-at, drop-drop, length-take-le}
 use borrow.Rule.Slice.PartMut.{putMid, midOf}
 use Rattle.codec.specs.Plain.{zeros}
 use Rattle.codec.specs.Word.{word}
-use Rattle.machine.specs.Limits.{recordSize, dataIn, mostData}
+use Rattle.machine.specs.Limits.{canProtocol, recordSize, dataIn, mostData}
 use Rattle.machine.specs.Message.{idBytes, Rec, twelve, shown, received}
 use Rattle.layout.specs.Record.{rec36}
 use Rattle.layout.proofs.Memory.{shown-is}
@@ -28,13 +28,13 @@ two-parts k n d ys zs h e =
 pub mid-long : (k n : ℕ) (d ys : List ℕ) → length d ≡ k + n → length ys ≡ k → length (midOf k n (ys ++ drop k d)) ≡ n
 mid-long k n d ys h e = length-take-le n (drop k (ys ++ drop k d)) (omega (arith, length-drop k (ys ++ drop k d), length-append ys (drop k d), length-drop k d))
 
-pub six-stored : (h : List ℕ) (rx tx time size : ℕ) {a b c d e f : List ℕ} → length h ≡ dataIn → a ≡ word 5 → b ≡ word rx → c ≡ word tx → d ≡ word time → e ≡ word size → f ≡ word size
-    → putMid 20 4 (putMid 16 4 (putMid 12 4 (putMid 8 4 (putMid 4 4 (a ++ drop 4 h) b) c) d) e) f ≡ numbers rx tx time size
+pub six-stored : (h : List ℕ) (protocol rx tx time size extra : ℕ) {a b c d e f : List ℕ} → length h ≡ dataIn → a ≡ word protocol → b ≡ word rx → c ≡ word tx → d ≡ word time → e ≡ word size → f ≡ word extra
+    → putMid 20 4 (putMid 16 4 (putMid 12 4 (putMid 8 4 (putMid 4 4 (a ++ drop 4 h) b) c) d) e) f ≡ numbers protocol rx tx time size extra
 unfolding numbers word
-six-stored h rx tx time size l pa pb pc pd pe pf =
+six-stored h protocol rx tx time size extra l pa pb pc pd pe pf =
     let none : drop 4 (drop 4 (drop 4 (drop 4 (drop 4 (drop 4 h))))) ≡ [] = simp drop-drop (drop-of-length-le h {i = 24} (omega arith)) in
     (λ i. putMid 20 4 (putMid 16 4 (putMid 12 4 (putMid 8 4 (putMid 4 4 (pa i ++ drop 4 h) (pb i)) (pc i)) (pd i)) (pe i)) (pf i))
-    ∙ ap (λ (x : List ℕ). numbers rx tx time size ++ x) none
+    ∙ ap (λ (x : List ℕ). numbers protocol rx tx time size extra ++ x) none
 
 -- bytes, then zeros, over the whole of a slice
 pub padded-over : (j n : ℕ) (d b ys zs : List ℕ) → j ≡ length b → length b ≤ length d → ys ≡ b → n ≡ length (ys ++ drop j d) - length b → zs ≡ zeros (length (midOf (length b) n (ys ++ drop j d)))
@@ -51,43 +51,54 @@ padded-over j n d b ys zs ej h e en ez =
     ∙ ap₂ (λ (x y : List ℕ). x ++ y) e (ez ∙ ap (λ (k : ℕ). zeros k) rest)
 
 -- an identifier, then bytes with zeros behind them
-id-padded : (id : ℕ) (b : List ℕ) → idBytes id ++ padded 8 b ≡ padded mostData (idBytes id ++ b)
+id-padded : (n id : ℕ) (b : List ℕ) → idBytes id ++ padded n b ≡ padded (4 + n) (idBytes id ++ b)
 unfolding padded idBytes
-id-padded id b =
-    let e : 8 - length b ≡ mostData - length (idBytes id ++ b) = omega arith in
+id-padded n id b =
+    let e : n - length b ≡ 4 + n - length (idBytes id ++ b) = omega arith in
     ap (λ (n : ℕ). idBytes id ++ (b ++ zeros n)) e
 
-id-long : (id : ℕ) → length (idBytes id) ≡ 4
+pub id-long : (id : ℕ) → length (idBytes id) ≡ 4
 unfolding idBytes
 id-long id = refl
 
-pub frame-put : (d ys zs b : List ℕ) (id : ℕ) → length d ≡ mostData → ys ≡ idBytes id → zs ≡ padded (length (midOf 4 8 (ys ++ drop 4 d))) b → putMid 4 8 (ys ++ drop 4 d) zs ≡ padded mostData (idBytes id ++ b)
-frame-put d ys zs b id h y z =
+pub frame-put : (n : ℕ) (d ys zs b : List ℕ) (id : ℕ) → 4 + length b ≤ length d → ys ≡ idBytes id → n ≡ length (ys ++ drop 4 d) - 4 → zs ≡ padded (length (midOf 4 n (ys ++ drop 4 d))) b
+    → putMid 4 n (ys ++ drop 4 d) zs ≡ padded (length d) (idBytes id ++ b)
+frame-put n d ys zs b id h y en z =
     let l : length ys ≡ 4 = ap length y ∙ id-long id in
-    two-parts 4 8 d ys zs h l
-    ∙ ap₂ (λ (x y : List ℕ). x ++ y) y (z ∙ ap (λ (k : ℕ). padded k b) (mid-long 4 8 d ys h l))
-    ∙ id-padded id b
+    let whole : length d ≡ 4 + n = omega (arith, length-append ys (drop 4 d), length-drop 4 d) in
+    two-parts 4 n d ys zs whole l
+    ∙ ap₂ (λ (x y : List ℕ). x ++ y) y (z ∙ ap (λ (k : ℕ). padded k b) (mid-long 4 n d ys whole l))
+    ∙ id-padded n id b
+    ∙ ap (λ (k : ℕ). padded k (idBytes id ++ b)) (sym whole)
 
 -- ---- a record's bytes
 
-pub numbers-long : (rx tx time size : ℕ) → length (numbers rx tx time size) ≡ dataIn
+pub numbers-long : (protocol rx tx time size extra : ℕ) → length (numbers protocol rx tx time size extra) ≡ dataIn
 unfolding numbers word
-numbers-long rx tx time size = refl
+numbers-long protocol rx tx time size extra = refl
 
-pub record-is : (r : Rec) → numbers (r .rx) (r .tx) (r .time) (length (r .bytes)) ++ padded mostData (r .bytes) ≡ rec36 .put r
+-- the six of a record of raw CAN
+abbrev pub six : Rec → List ℕ
+six r = numbers canProtocol (r .rx) (r .tx) (r .time) (length (r .bytes)) (length (r .bytes))
+
+pub record-is : (r : Rec) → six r ++ padded mostData (r .bytes) ≡ rec36 .put r
 unfolding numbers padded shown twelve
 record-is r = shown-is r
 
-pub record-put : (cell ys zs : List ℕ) (r : Rec) → length cell ≡ recordSize → ys ≡ numbers (r .rx) (r .tx) (r .time) (length (r .bytes)) → zs ≡ padded mostData (r .bytes) → putMid dataIn mostData (ys ++ drop dataIn cell) zs ≡ rec36 .put r
+pub record-put : (cell ys zs : List ℕ) (r : Rec) → length cell ≡ recordSize → ys ≡ six r → zs ≡ padded mostData (r .bytes) → putMid dataIn mostData (ys ++ drop dataIn cell) zs ≡ rec36 .put r
 record-put cell ys zs r h y z =
-    two-parts dataIn mostData cell ys zs h (ap length y ∙ numbers-long (r .rx) (r .tx) (r .time) (length (r .bytes)))
+    two-parts dataIn mostData cell ys zs h (ap length y ∙ numbers-long canProtocol (r .rx) (r .tx) (r .time) (length (r .bytes)) (length (r .bytes)))
     ∙ ap₂ (λ (a b : List ℕ). a ++ b) y z ∙ record-is r
 
 -- ---- the record of a frame received
 
-pub received-put : (cell ys zs : List ℕ) (clock rx size id : ℕ) (b : List ℕ) → length cell ≡ recordSize → size ≡ 4 + length b → ys ≡ numbers rx 0 clock size
-    → zs ≡ padded mostData (idBytes id ++ b) → putMid dataIn mostData (ys ++ drop dataIn cell) zs ≡ rec36 .put (received clock rx (idBytes id ++ b))
+pub framed-long : (id : ℕ) (b : List ℕ) → length (idBytes id ++ b) ≡ 4 + length b
+framed-long id b = length-append (idBytes id) b ∙ ap (λ (k : ℕ). k + length b) (id-long id)
+
+pub received-put : (cell ys zs : List ℕ) (clock rx size id : ℕ) (b : List ℕ) → length cell ≡ recordSize → size ≡ 4 + length b → ys ≡ numbers canProtocol rx 0 clock size size
+    → zs ≡ padded (length (midOf dataIn mostData (ys ++ drop dataIn cell))) (idBytes id ++ b) → putMid dataIn mostData (ys ++ drop dataIn cell) zs ≡ rec36 .put (received clock rx (idBytes id ++ b))
 unfolding received
 received-put cell ys zs clock rx size id b h es y z =
     record-put cell ys zs (received clock rx (idBytes id ++ b)) h
-    (y ∙ ap (λ (k : ℕ). numbers rx 0 clock k) (es ∙ sym (length-append (idBytes id) b ∙ ap (λ (k : ℕ). k + length b) (id-long id)))) z
+    (y ∙ ap (λ (k : ℕ). numbers canProtocol rx 0 clock k k) (es ∙ sym (framed-long id b)))
+    (z ∙ ap (λ (k : ℕ). padded k (idBytes id ++ b)) (mid-long dataIn mostData cell ys h (ap length y ∙ numbers-long canProtocol rx 0 clock size size)))

@@ -15,9 +15,9 @@ use Rattle.codec.specs.Code.{byte, word32, both, via, such, mark, markOf, slot,
 use Rattle.codec.proofs.Tests.{left, right}
 use Rattle.codec.proofs.Word.{word-part, word-drop}
 use Rattle.codec.proofs.Many.{slot-lawful}
-use Rattle.iso.specs.Iso.{Transfer, Talk, turned}
+use Rattle.iso.specs.Iso.{Transfer, Talk, turned, turnedSlot}
 use Rattle.iso_layout.specs.Sizes.{payloadIn, transferIn, talkSize}
-use Rattle.iso_layout.specs.Region.{transferred, transferParts, transferBack, transferFits, transferPlain, transferCode, payload508, talkCell}
+use Rattle.iso_layout.specs.Region.{Transferred, transferParts, transferBack, transferFits, transferPlain, transferCode, payload508, talkCell}
 use Rattle.iso_layout.proofs.Sizes.{slot-size}
 use Rattle.iso_layout.proofs.Lawful.{transfer-back, kind-there, talk-lawful}
 use Rattle.talk_head.specs.Headed.{headParts, headed, Held, Tells, remains, payloadOn, transferAt, payloadAt, headAt, numbers, headBytes, withHead, withPayload, settled}
@@ -33,6 +33,16 @@ held-tells h b t = kind-there (h .kind) (h .n) (h .time) (h .left) (h .gap) (h .
 pub tells-headed : (h : Head) (b : List ℕ) (x : Transfer) → Tells h b x → headed h b ≡ x
 unfolding headed
 tells-headed h b x e = sym (ap transferBack e) ∙ transfer-back x
+
+-- what holds of the head and the payload of a transfer's parts holds of any that tell of it
+abbrev pub headOf : Transferred → Head
+headOf p = record { kind = p .0; n = p .1 .0; time = p .1 .1 .0; left = p .1 .1 .1 .0; gap = p .1 .1 .1 .1 .0; waits = p .1 .1 .1 .1 .1 .0 }
+
+abbrev pub bytesOf : Transferred → List ℕ
+bytesOf p = p .1 .1 .1 .1 .1 .1
+
+pub told : (P : Head → List ℕ → Type 0) (x : Transfer) → P (headOf (transferParts x)) (bytesOf (transferParts x)) → (h : Head) (b : List ℕ) → Tells h b x → P h b
+told P x q h b e = subst (λ p. P (headOf p) (bytesOf p)) e q
 
 -- ---- the bytes of a taken place
 
@@ -178,11 +188,11 @@ module _ (flags : ℕ) (t : List ℕ) (l : length t ≡ talkSize) (v : T (slot (
     is-held : Held (headAt t) (payloadAt t)
     is-held = subst (λ p. T (transferFits p)) (got-parts t) fits-there
 
-    told : Tells (headAt t) (payloadAt t) (c .transfer)
-    told = ap transferParts (transfer-is ∙ sym (read-is t)) ∙ held-tells (headAt t) (payloadAt t) is-held
+    tells-it : Tells (headAt t) (payloadAt t) (c .transfer)
+    tells-it = ap transferParts (transfer-is ∙ sym (read-is t)) ∙ held-tells (headAt t) (payloadAt t) is-held
 
     laid : t ≡ lay c (headAt t) (payloadAt t)
-    laid = stays ∙ ap (slot (talkCell flags) .put) is-some ∙ told-put flags c (headAt t) (payloadAt t) told
+    laid = stays ∙ ap (slot (talkCell flags) .put) is-some ∙ told-put flags c (headAt t) (payloadAt t) tells-it
 
     put-turned : (h : Head) (b : List ℕ) (x : Transfer) → Tells h b x → lay c h b ≡ slot (talkCell flags) .put (some (turned c x))
     unfolding turned
@@ -212,10 +222,37 @@ module _ (flags : ℕ) (t : List ℕ) (l : length t ≡ talkSize) (v : T (slot (
           talk = c;
           is = is-some;
           held = talk-lawful flags .ok-get (drop 1 t) rest-long (on .1);
-          tells = told;
+          tells = tells-it;
           fits = is-held;
           payload = payload-valid;
           heads = λ h x e. with-head h ∙ put-turned h (payloadAt t) x e;
           becomes = λ h b x e. with-both h b ∙ put-turned h b x e;
           settles = λ h x e. is-settled h ∙ put-turned h (remains h (payloadAt t)) x e;
         }
+
+-- ---- a conversation turned: a free place stays, one whose transfer stays does so too, another has its new head and what remains of its payload
+
+module _ (flags : ℕ) (t : List ℕ) (l : length t ≡ talkSize) (v : T (slot (talkCell flags) .valid t)) (f : Talk → Transfer) where
+  abbrev turning : List ℕ
+  turning = slot (talkCell flags) .put (turnedSlot f (slot (talkCell flags) .get t))
+
+  pub free-turns : getD t 0 0 ≡ 0 → t ≡ turning
+  unfolding turnedSlot
+  free-turns e =
+      let g : slot (talkCell flags) .get t ≡ none = vacant flags t l v e in
+      stays flags t l v ∙ ap (slot (talkCell flags) .put) (g ∙ sym (ap (turnedSlot f) g))
+
+  module _ (p : Taken flags t) where
+    turning-is : (x : Transfer) → f (p .talk) ≡ x → slot (talkCell flags) .put (some (turned (p .talk) x)) ≡ turning
+    unfolding turnedSlot
+    turning-is x e = ap (λ y. slot (talkCell flags) .put (some (turned (p .talk) y))) (sym e) ∙ ap (λ y. slot (talkCell flags) .put (turnedSlot f y)) (sym (p .is))
+
+    pub same-turns : f (p .talk) ≡ p .talk .transfer → t ≡ turning
+    unfolding turned
+    same-turns e = stays flags t l v ∙ ap (slot (talkCell flags) .put) (p .is) ∙ turning-is (p .talk .transfer) e
+
+    pub settled-turns : (h : Head) → Tells h (remains h (payloadAt t)) (f (p .talk)) → settled h t ≡ turning
+    settled-turns h e = p .settles h (f (p .talk)) e ∙ turning-is (f (p .talk)) refl
+
+    pub both-turn : (h : Head) (b : List ℕ) → Tells h b (f (p .talk)) → withPayload b (withHead h t) ≡ turning
+    both-turn h b e = p .becomes h b (f (p .talk)) e ∙ turning-is (f (p .talk)) refl

@@ -1,54 +1,14 @@
--- `message::put_clean` meets its contract: six numbers, then the data and zeros. Assumes nothing.
-use mathlib.Core.Path.{ap, _∙_}
-use native.Mathlib.Omega.{arith}
-use Rattle.machine.specs.Message.{sizeOf, widthFlag}
-use Rattle.message.proofs.Laws.{data-fits, clean-put}
+-- `message::put_clean` meets its contract: the bytes of a record of raw CAN. Assumes nothing.
+use mathlib.Core.Path.{_∙_}
+use Rattle.message.proofs.Laws.{raw-clean}
 use borrow.Author.Needs.{needs}
 use Rattle.message.proofs.put_clean.Statement.{statement}
 use Rattle.message.proofs.put_clean.Tie as tie
 
-part-put-padded-end-2 : tie.Need-part-put-padded-end-2
-unfolding sizeOf
-part-put-padded-end-2 c = omega (arith, c .before .before .before .before .before .before .before .word-at .ensures .0)
-
-put-padded-requires : tie.Need-put-padded-requires
-unfolding sizeOf
-put-padded-requires c κs =
-    let start = c .before .before .before .before .before .before .before .before .before .before .before in
-    let size = c .before .before .before .before .before .before .before .before .word-at in
-    let head = c .before .before .before .before .put-numbers in
-    data-fits (start .args .cell .now) (head .last .0) (start .args .m .now) _ (size .result) (start .pre .0) (start .pre .1) (omega (arith, size .ensures .0)) (head .ensures)
-
 returns : tie.Need-returns
-unfolding sizeOf
 returns c =
-    let start = c .before .before .before .before .before .before .before .before .before .before .before .before .before .before in
-    let size = c .before .before .before .before .before .before .before .before .before .before .before .word-at in
-    let flag = c .before .before .before .before .before .before .before .before .before .width-flag in
-    let head = c .before .before .before .before .before .before .before .put-numbers in
-    let tail = c .before .before .put-padded in
-    clean-put (start .args .cell .now) (head .last .0) (tail .last .0) (start .args .m .now) (flag .result) (size .result) (start .pre .0) (start .pre .1)
-    (flag .ensures ∙ ap widthFlag (c .before .before .before .before .before .before .before .before .before .before .is-wide .ensures)) (size .ensures .0) (omega (arith, size .ensures .0)) (head .ensures) (tail .ensures)
+    let start = c .before .before .before .before .before .before in
+    c .before .before .put-bytes .ensures ∙ raw-clean (start .args .cell .now) (start .args .m .now) (start .pre .0)
 
 pub put-clean-spec : {M : Type 1} → statement M
-put-clean-spec =
-    tie.close
-    (tie.spec
-    (λ c κs. search needs)
-    (λ c κs. search needs)
-    (λ c κs. search needs)
-    (λ c. search needs)
-    (λ c. search needs)
-    (λ c. search needs)
-    (λ c κs. search needs)
-    (λ c. search needs)
-    (λ c. search needs)
-    (λ c. search needs)
-    (λ c. search needs)
-    (λ c. search needs)
-    (λ c. search needs)
-    (λ c. search needs)
-    part-put-padded-end-2
-    put-padded-requires
-    (λ c. search needs)
-    returns)
+put-clean-spec = tie.close (tie.spec (λ c κs. search needs) (λ c. search needs) returns)

@@ -7,7 +7,7 @@ use Rattle.records.proofs.put_numbers.Tie as tie
 returns : tie.Need-returns
 returns c = let start = c .before .before .before .before .before .before .before .before .before .before .before .before .before .before .before .before .before .before .before .before .before .before .before .before .before in
     let args = start .args in
-    six-stored (args .h .now) (args .rx) (args .tx) (args .time) (args .size) (start .pre)
+    six-stored (args .h .now) (args .protocol) (args .rx) (args .tx) (args .time) (args .size) (args .extra) (start .pre)
     (c .before .before .before .before .before .before .before .before .before .before .before .before .before .before .before .before .before .before .before .before .before .before .put-word .ensures)
     (c .before .before .before .before .before .before .before .before .before .before .before .before .before .before .before .before .before .before .put-word2 .ensures)
     (c .before .before .before .before .before .before .before .before .before .before .before .before .before .before .put-word3 .ensures)
