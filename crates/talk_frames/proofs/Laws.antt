@@ -1,24 +1,22 @@
 -- A place after a frame, by the frame's meaning; and what it tells. Assumes nothing.
 use mathlib.Core.Path.{_≡_, refl, sym, ap, ap₂, _∙_, subst}
-use Prim.Native.Nat.{ℕ, zero, suc, _+_, _≤_, _<_}
+use Prim.Native.Nat.{ℕ, zero, suc, _+_, _≤_}
 use native.Mathlib.Omega.{arith}
-use mathlib.Core.Bool.{Bool, true, false}
-use mathlib.Core.Option.{Option, none, some}
-use mathlib.Core.List.{List, [], _∷_, _++_, append-assoc}
+use mathlib.Core.Option.{Option, some}
+use mathlib.Core.List.{List, _++_, append-assoc}
 use lib.ListN.{length, getD, take, drop, length-append, length-drop}
-use lib.Seq.{take-at, drop-at, drop-drop, length-take-le}
+use lib.Seq.{drop-at, drop-drop, length-take-le}
 use lib.Dec.{T, eqb}
 use Rattle.codec.specs.Word.{word, wordAt}
-use Rattle.codec.specs.Code.{slot, getSlot, byte, word32, both, via, such, mark, markOf}
+use Rattle.codec.specs.Code.{slot, getSlot, byte, word32, both, via, such, mark}
 use Rattle.codec.proofs.Word.{word-part}
-use Rattle.machine.specs.Message.{Rec}
 use Rattle.iso.specs.Limits.{inFirst, inNext, mostPayload}
-use Rattle.iso.specs.Iso.{Transfer, Talk, Heard, idle, refuses, receives, becomes, turned, turnedSlot, newsAt, listening}
+use Rattle.iso.specs.Iso.{Talk, Heard, idle, refuses, becomes, turned, turnedSlot, newsAt, listening}
 use Rattle.iso_layout.specs.Sizes.{patternIn, flowIn, transferIn, payloadIn, talkSize}
-use Rattle.iso_layout.specs.Region.{transferParts, transferCode, payload508, talkCell}
-use Rattle.iso_layout.proofs.Held.{ReceptionOk, TransferOk, TalkOk, talk-sound}
+use Rattle.iso_layout.specs.Region.{payload508, talkCell}
+use Rattle.iso_layout.proofs.Held.{ReceptionOk, TransferOk, talk-sound}
 use Rattle.talk_head.specs.declared.Head.{Head}
-use Rattle.talk_head.specs.Headed.{headParts, headed, Tells, remains, payloadOn, payloadAt, headAt, headBytes, numbers, withHead, withPayload, settled}
+use Rattle.talk_head.specs.Headed.{headed, remains, payloadOn, payloadAt, headAt, headBytes, numbers, withHead, withPayload, settled}
 use Rattle.talk_head.proofs.Bytes.{payload-short}
 use Rattle.talk_head.proofs.Taken.{Taken, taken, stays, tells-headed}
 use Rattle.talk_hearing.specs.declared.Means.{Means}
@@ -27,7 +25,7 @@ use Rattle.talk_hearing.specs.Meaning.{meant, Conversing, Meant, Plain, Sized}
 use Rattle.talk_hearing.proofs.ByKind.{receiving}
 use Rattle.talk_telling.specs.declared.Told.{Told}
 use Rattle.talk_telling.specs.Telling.{told, Readable}
-use Rattle.talk_frames.specs.Hearing.{bareHead, Talking, Hears}
+use Rattle.talk_frames.specs.Hearing.{bareHead, Hears}
 
 -- ---- a new head leaves the payload
 

@@ -1,17 +1,14 @@
 -- The payload bytes in the lent buffer, and what each meaning tells. Assumes nothing.
-use mathlib.Core.Path.{_≡_, refl, sym, ap, ap₂, _∙_, subst}
+use mathlib.Core.Path.{_≡_, sym, ap, ap₂, _∙_}
 use Prim.Native.Nat.{ℕ, _+_, _-_, _≤_, _<_}
 use native.Mathlib.Omega.{arith}
-use mathlib.Core.List.{List, [], _∷_, _++_, append-assoc}
+use mathlib.Core.List.{List, _++_, append-assoc}
 use lib.ListN.{length, take, drop, length-append, length-drop}
 use lib.Seq.{take-at, length-take-le}
-use lib.Dec.{T}
 use borrow.Rule.Slice.PartMut.{putMid}
 use Rattle.iso.specs.Limits.{mostPayload}
 use Rattle.iso.specs.Iso.{Talk, becomes, arrived}
-use Rattle.iso_layout.specs.Sizes.{talkSize}
-use Rattle.iso_layout.specs.Region.{payload508}
-use Rattle.talk_head.specs.Headed.{payloadOn, bytesOn, payloadAt}
+use Rattle.talk_head.specs.Headed.{bytesOn, payloadAt}
 use Rattle.talk_head.specs.declared.Head.{Head}
 use Rattle.talk_head.proofs.Bytes.{payload-is}
 use Rattle.talk_hearing.specs.declared.Means.{Means}

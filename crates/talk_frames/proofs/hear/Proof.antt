@@ -1,8 +1,6 @@
-use mathlib.Core.Path.{_≡_, ap, _∙_, subst}
+use mathlib.Core.Path.{subst}
 use Prim.Native.Nat.{ℕ}
-use lib.ListN.{length}
 use denote.Ref.{now}
-use Rattle.talk_head.specs.Headed.{payloadAt}
 use Rattle.talk_head.proofs.Taken.{taken}
 use Rattle.talk_hearing.specs.Meaning.{Room}
 use Rattle.talk_frames.proofs.Laws.{sized, hears}
@@ -55,4 +53,17 @@ returns c =
     )
 
 pub hear-spec : {M : Type 1} → statement M
-hear-spec = tie.close (tie.spec (λ c κs. search needs) (λ c κs. search needs) payload-size-requires (λ c. search needs) (λ c κs. search needs) meaning-requires tell-requires turn-requires (λ c. search needs) (λ c. search needs) returns)
+hear-spec =
+    tie.close
+    (tie.spec
+    (λ c κs. search needs)
+    (λ c κs. search needs)
+    payload-size-requires
+    (λ c. search needs)
+    (λ c κs. search needs)
+    meaning-requires
+    tell-requires
+    turn-requires
+    (λ c. search needs)
+    (λ c. search needs)
+    returns)

@@ -15,4 +15,13 @@ returns c =
     more-is (s .args .h) (now (s .args .t)) (now (s .args .bytes)) _ _ (s .pre .0) (c .before .before .before .before .before .before .before .put-head .ensures) (c .before .before .append-payload .ensures)
 
 pub more-spec : {M : Type 1} → statement M
-more-spec = tie.close (tie.spec (λ c κs. search needs) (λ c. search needs) (λ c. search needs) (λ c. search needs) append-payload-requires (λ c. search needs) returns)
+more-spec =
+    tie.close
+    (tie.spec
+    (λ c κs. search needs)
+    (λ c. search needs)
+    (λ c. search needs)
+    (λ c. search needs)
+    append-payload-requires
+    (λ c. search needs)
+    returns)

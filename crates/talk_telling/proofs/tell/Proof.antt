@@ -1,5 +1,4 @@
-use mathlib.Core.Path.{_≡_, subst}
-use mathlib.Core.List.{List}
+use mathlib.Core.Path.{subst}
 use Prim.Native.Nat.{ℕ, _+_, _≤_, _<_}
 use native.Mathlib.Omega.{arith}
 use lib.ListN.{length}
@@ -73,4 +72,30 @@ returns-9 : tie.Need-returns-9
 returns-9 c = let s = c .before .before .before .before .before in (tells-flow (s .args .m) _ (now (s .args .bytes)) _ _ (c .enum-told6 .given .1), tt)
 
 pub tell-spec : {M : Type 1} → statement M
-tell-spec = tie.close (tie.spec (λ c. search needs) (λ c. search needs) put-part-requires (λ c. search needs) put-part-requires-2 (λ c. search needs) (λ c. search needs) (λ c. search needs) (λ c. search needs) (λ c. search needs) put-whole-requires (λ c. search needs) returns (λ c. search needs) returns-2 (λ c. search needs) returns-3 returns-4 returns-5 returns-6 returns-7 (λ c. search needs) returns-8 returns-9)
+tell-spec =
+    tie.close
+    (tie.spec
+    (λ c. search needs)
+    (λ c. search needs)
+    put-part-requires
+    (λ c. search needs)
+    put-part-requires-2
+    (λ c. search needs)
+    (λ c. search needs)
+    (λ c. search needs)
+    (λ c. search needs)
+    (λ c. search needs)
+    put-whole-requires
+    (λ c. search needs)
+    returns
+    (λ c. search needs)
+    returns-2
+    (λ c. search needs)
+    returns-3
+    returns-4
+    returns-5
+    returns-6
+    returns-7
+    (λ c. search needs)
+    returns-8
+    returns-9)
