@@ -1,10 +1,10 @@
 -- What a transfer is by the kind of its head, and what it then does with frames that mean nothing to it. Assumes nothing.
-use mathlib.Core.Path.{_≡_, refl, sym, ap, _∙_}
+use mathlib.Core.Path.{_≡_, refl, ap}
 use Prim.Native.Nat.{ℕ, zero, suc, _≤_, _<_}
 use native.Mathlib.Omega.{arith}
-use mathlib.Core.Bool.{Bool, true, false}
+use mathlib.Core.Bool.{true, false}
 use mathlib.Core.List.{List, []}
-use Rattle.iso.specs.Iso.{Transfer, Talk, Heard, receives, transmits, awaits, becomes, ended, transmitting, onFlowOf, onFlow, onConsecutive}
+use Rattle.iso.specs.Iso.{Talk, receives, transmits, awaits, becomes, ended, transmitting, onFlowOf, onFlow, onConsecutive}
 use Rattle.iso_layout.specs.Region.{transferOn}
 use Rattle.talk_head.specs.declared.Head.{Head}
 use Rattle.talk_head.specs.Headed.{headed}

@@ -1,21 +1,21 @@
 -- What each frame means, as code finds it out. Assumes nothing.
 use mathlib.Core.Path.{_≡_, refl, sym, ap, ap₂, _∙_}
-use Prim.Native.Nat.{ℕ, zero, suc, _+_, _*_, _-_, _/_, _%_, _≤_, _<_, min}
+use Prim.Native.Nat.{ℕ, _+_, _*_, _-_, _/_, _%_, _≤_, _<_, min}
 use native.Mathlib.Omega.{arith}
-use mathlib.Core.Bool.{Bool, true, false, not, _&&_, _||_}
-use mathlib.Core.List.{List, [], _∷_, _++_}
+use mathlib.Core.Bool.{Bool, true, false, _&&_}
+use mathlib.Core.List.{List, [], _∷_}
 use lib.ListN.{length, getD, take, drop}
-use lib.Dec.{eqb, leb, ltb}
+use lib.Dec.{ltb}
 use borrow.Author.Tests.{lt-ltb, le-ltb, le-leb, lt-leb, eq-eqb, ne-eqb}
 use Rattle.codec.specs.Plain.{if_then_else_, within}
 use Rattle.codec.proofs.Tests.{below, above, between, and-false}
-use Rattle.iso.specs.Limits.{mostPayload, inSingle, leastSegmented, inFirst, inNext, longestGap}
-use Rattle.iso.specs.Iso.{Transfer, Talk, Heard, Reception, idle, refuses, receives, transmits, awaits, sends, becomes, rxStart, arrived, ended, low, transmitting, gapOf, numberAfter, onSingle, onFirst, onNext, onConsecutive, staged, onFlow, onFlowOf, listening}
+use Rattle.iso.specs.Limits.{mostPayload, inSingle, leastSegmented, inNext, longestGap}
+use Rattle.iso.specs.Iso.{Transfer, Talk, Heard, Reception, idle, transmits, awaits, sends, becomes, arrived, ended, low, transmitting, gapOf, numberAfter, onSingle, onFirst, onNext, onConsecutive, staged, onFlow, onFlowOf, listening}
 use Rattle.talk_head.specs.declared.Head.{Head}
 use Rattle.talk_head.specs.Headed.{headed}
 use Rattle.talk_hearing.specs.declared.Means.{Means}
 use Rattle.talk_hearing.specs.declared.Means.the-variants.{Nothing, Single, Instead, Start, Refuse, Drop, More, Last, Flow}
-use Rattle.talk_hearing.specs.Meaning.{meant, Conversing, Meant, Sized}
+use Rattle.talk_hearing.specs.Meaning.{meant, Conversing, Meant}
 use Rattle.talk_hearing.proofs.ByKind.{receiving, awaiting, sends-on, sends-not, ends-not, goes-not-on, awaits-not}
 
 -- ---- STmin

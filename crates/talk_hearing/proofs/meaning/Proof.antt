@@ -57,4 +57,19 @@ returns-8 c =
     (hears-next (s .args .h) (s .args .held) (s .args .same) (now (s .args .bytes)) _ refl _ (c .before .before .before .before .before .before .if2 .left) (c .before .before .before .before .before .if3 .left) (c .before .before .before .before .if4 .left) (c .before .before .before .if5 .left) (c .before .before .if6 .left) (c .next .ensures .0), c .next .ensures .1)
 
 pub meaning-spec : {M : Type 1} → statement M
-meaning-spec = tie.close (tie.spec returns (λ c. search needs) (λ c κs. search needs) returns-2 returns-3 (λ c κs. search needs) returns-4 (λ c κs. search needs) returns-5 returns-6 returns-7 next-requires returns-8)
+meaning-spec =
+    tie.close
+    (tie.spec
+    returns
+    (λ c. search needs)
+    (λ c κs. search needs)
+    returns-2
+    returns-3
+    (λ c κs. search needs)
+    returns-4
+    (λ c κs. search needs)
+    returns-5
+    returns-6
+    returns-7
+    next-requires
+    returns-8)

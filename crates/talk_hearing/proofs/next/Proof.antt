@@ -1,5 +1,5 @@
-use mathlib.Core.Path.{_≡_, refl, sym, subst}
-use Prim.Native.Nat.{ℕ, _+_, _-_, _≤_, _<_, min}
+use mathlib.Core.Path.{refl, subst}
+use Prim.Native.Nat.{ℕ, _-_, _≤_, _<_, min}
 use native.Mathlib.Omega.{arith}
 use lib.ListN.{length}
 use denote.Ref.{now}
@@ -48,4 +48,16 @@ returns-4 c =
     )
 
 pub next-spec : {M : Type 1} → statement M
-next-spec = tie.close (tie.spec (λ c. search needs) sub-missing (λ c κs. search needs) returns (λ c. search needs) (λ c κs. search needs) (λ c κs. search needs) returns-2 returns-3 returns-4)
+next-spec =
+    tie.close
+    (tie.spec
+    (λ c. search needs)
+    sub-missing
+    (λ c κs. search needs)
+    returns
+    (λ c. search needs)
+    (λ c κs. search needs)
+    (λ c κs. search needs)
+    returns-2
+    returns-3
+    returns-4)

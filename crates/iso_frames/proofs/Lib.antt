@@ -1,0 +1,5 @@
+pub mod One
+pub mod Bytes
+pub mod Passing
+pub mod Listening
+pub mod Region
