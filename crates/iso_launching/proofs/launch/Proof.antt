@@ -28,7 +28,7 @@ slice-write-f c = search needs
 
 -- src/lib.rt:26:5
 slice-write-f-2 : tie.Need-slice-write-f-2
-slice-write-f-2 c = two-there (c .before .before .before .before .before .before .args .f .now) (c .before .before .put-framed .last .0) isoRecordSize 1 (c .before .before .before .before .before .before .pre .0)
+slice-write-f-2 c = two-there (c .before .before .before .before .before .before .args .f .now) (c .before .before .put-framed .last .0) isoRecordSize _ (c .before .before .before .before .before .before .pre .0)
 
 -- src/lib.rt:20:1
 same-length : tie.Need-same-length
