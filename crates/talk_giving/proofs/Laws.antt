@@ -19,7 +19,7 @@ use Rattle.talk_head.specs.declared.Head.{Head}
 use Rattle.talk_head.specs.Headed.{Tells, Held, headed, remains, payloadOn, bytesOn, payloadAt, headAt, withHead, settled}
 use Rattle.talk_head.proofs.Taken.{Taken, taken, vacant, stays, told, headOf, bytesOf}
 use Rattle.talk_head.proofs.Bytes.{payload-short, payload-is}
-use Rattle.talk_frames.specs.Data.{carried, takenOf}
+use Rattle.framing.specs.Data.{carried, takenOf}
 use Rattle.talk_giving.specs.Giving.{flowWaits, flowStatus, flowTaken, nextDue, nextTaken, Placed, dataOf, after, givenBy, leftBy, Gave}
 
 -- ---- a place that gives nothing stays as it is

@@ -12,7 +12,7 @@ use Rattle.iso.specs.Limits.{inNext}
 use Rattle.iso.specs.Iso.{Talk, Given, turned}
 use Rattle.iso_layout.specs.Region.{talkCell}
 use Rattle.talk_head.specs.declared.Head.{Head}
-use Rattle.talk_frames.specs.Data.{carried}
+use Rattle.framing.specs.Data.{carried}
 
 -- ---- by the head of its transfer: whether a flow frame waits, its status, and the transfer without it
 unfoldable pub flowWaits : Head → Bool

@@ -6,7 +6,7 @@ ghost use lib.ListN.{length};
 ghost use Rattle.iso.specs.Limits.{mostPayload};
 ghost use Rattle.iso.specs.Iso.{answerOf, segmentOf};
 ghost use Rattle.iso_layout.specs.Sizes.{talkSize};
-ghost use Rattle.talk_frames.specs.Data.{frameRoom};
+ghost use Rattle.framing.specs.Data.{frameRoom};
 ghost use Rattle.talk_giving.specs.Giving.{flowWaits, flowStatus, flowTaken, nextDue, nextTaken, Placed, Gave};
 use talk_head::Head;
 
@@ -99,7 +99,7 @@ pub fn answer(t: &mut [u8], d: &mut [u8]) -> usize
     let h = talk_head::head_in(t);
     if flow_waits(h) {
         talk_head::settle(t, flow_taken(h));
-        return talk_frames::flow(d, flow_status(h));
+        return framing::flow(d, flow_status(h));
     }
     0
 }
@@ -115,7 +115,7 @@ pub fn segment(t: &mut [u8], d: &mut [u8]) -> usize
     let h = talk_head::head_in(t);
     if next_due(h) {
         let end = talk_head::BYTES + talk_head::payload_size(t) as usize;
-        let m = talk_frames::next(d, h.n as usize, &t[talk_head::BYTES..end]);
+        let m = framing::next(d, h.n as usize, &t[talk_head::BYTES..end]);
         talk_head::put_head(t, next_taken(h));
         return m;
     }

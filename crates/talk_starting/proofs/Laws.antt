@@ -20,7 +20,7 @@ use Rattle.iso_layout.specs.Region.{transferParts, transmitsAt, talkCell}
 use Rattle.talk_head.specs.declared.Head.{Head}
 use Rattle.talk_head.specs.Headed.{Tells, payloadAt, headAt, withHead, withPayload}
 use Rattle.talk_head.proofs.Taken.{Taken, taken, told, headOf, bytesOf}
-use Rattle.talk_frames.specs.Data.{carried}
+use Rattle.framing.specs.Data.{carried}
 use Rattle.talk_giving.specs.Giving.{Gave}
 use Rattle.talk_giving.proofs.Laws.{gives-none, gives-one}
 use Rattle.talk_starting.specs.Starting.{mayStart, firstTaken}

@@ -7,7 +7,7 @@ ghost use Rattle.machine.specs.Message.{Rec, bit, idOf};
 ghost use Rattle.iso.specs.Limits.{idSize, mostPayload, inFirst};
 ghost use Rattle.iso.specs.Iso.{startOf};
 ghost use Rattle.iso_layout.specs.Sizes.{talkSize};
-ghost use Rattle.talk_frames.specs.Data.{frameRoom};
+ghost use Rattle.framing.specs.Data.{frameRoom};
 ghost use Rattle.talk_giving.specs.Giving.{Gave};
 ghost use Rattle.talk_starting.specs.Starting.{mayStart, firstTaken};
 use iso_places::FLOW_IN;
@@ -65,7 +65,7 @@ pub fn start(t: &mut [u8], wide: bool, id: u32, payload: &[u8], d: &mut [u8]) ->
     if may_start(t, wide, id) {
         talk_head::put_head(t, first_taken());
         talk_head::set_payload(t, payload);
-        return talk_frames::first(d, payload);
+        return framing::first(d, payload);
     }
     0
 }

@@ -5,7 +5,7 @@ use native.Mathlib.Omega.{arith}
 use mathlib.Core.List.{[]}
 use Rattle.iso.specs.Iso.{answerOf, flowFrame}
 use Rattle.talk_head.specs.Headed.{settled}
-use Rattle.talk_frames.specs.Data.{carried}
+use Rattle.framing.specs.Data.{carried}
 use Rattle.talk_giving.proofs.Laws.{free-gave, answers-one, answers-none, someTalk}
 use borrow.Author.Needs.{needs}
 use Rattle.talk_giving.proofs.answer.Statement.{statement}

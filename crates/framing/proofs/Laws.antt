@@ -10,7 +10,7 @@ use borrow.Rule.Slice.PartMut.{putMid, midOf, same-len-mid}
 use Rattle.machine.specs.Message.{Rec, idBytes}
 use Rattle.iso.specs.Limits.{idSize, inSingle, inFirst, inNext}
 use Rattle.iso.specs.Iso.{Talk, Stage, Transmission, framed, numberAfter, singleFrame, firstFrame, nextFrame, flowFrame}
-use Rattle.talk_frames.specs.Data.{frameRoom, carried, Carries, takenOf}
+use Rattle.framing.specs.Data.{frameRoom, carried, Carries, takenOf}
 
 -- ---- what a frame carries
 

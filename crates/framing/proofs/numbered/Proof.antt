@@ -1,9 +1,9 @@
--- `talk_frames::numbered` meets its contract: as it is defined. Assumes nothing.
+-- `framing::numbered` meets its contract: as it is defined. Assumes nothing.
 use mathlib.Core.Path.{refl}
 use Rattle.iso.specs.Iso.{numberAfter}
 use borrow.Author.Needs.{needs}
-use Rattle.talk_frames.proofs.numbered.Statement.{statement}
-use Rattle.talk_frames.proofs.numbered.Tie as tie
+use Rattle.framing.proofs.numbered.Statement.{statement}
+use Rattle.framing.proofs.numbered.Tie as tie
 
 -- src/lib.rt:39:14
 add-result : tie.Need-add-result

@@ -1,12 +1,12 @@
--- `talk_frames::next` meets its contract: one byte, then payload. Assumes nothing.
+-- `framing::next` meets its contract: one byte, then payload. Assumes nothing.
 use mathlib.Core.Path.{_≡_}
 use Prim.Native.Nat.{_+_, _-_, _≤_}
 use native.Mathlib.Omega.{arith}
 use lib.ListN.{length, length-set}
-use Rattle.talk_frames.proofs.Laws.{one-long, next-long, next-done}
+use Rattle.framing.proofs.Laws.{one-long, next-long, next-done}
 use borrow.Author.Needs.{needs}
-use Rattle.talk_frames.proofs.next.Statement.{statement}
-use Rattle.talk_frames.proofs.next.Tie as tie
+use Rattle.framing.proofs.next.Statement.{statement}
+use Rattle.framing.proofs.next.Tie as tie
 
 -- src/lib.rt:58:9
 part-requires : tie.Need-part-requires

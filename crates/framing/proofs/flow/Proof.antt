@@ -1,8 +1,8 @@
--- `talk_frames::flow` meets its contract: three bytes. Assumes nothing.
-use Rattle.talk_frames.proofs.Laws.{flow-done}
+-- `framing::flow` meets its contract: three bytes. Assumes nothing.
+use Rattle.framing.proofs.Laws.{flow-done}
 use borrow.Author.Needs.{needs}
-use Rattle.talk_frames.proofs.flow.Statement.{statement}
-use Rattle.talk_frames.proofs.flow.Tie as tie
+use Rattle.framing.proofs.flow.Statement.{statement}
+use Rattle.framing.proofs.flow.Tie as tie
 
 -- src/lib.rt:47:12
 add-d : tie.Need-add-d

@@ -1,12 +1,12 @@
--- `talk_frames::first` meets its contract: two bytes, then payload. Assumes nothing.
+-- `framing::first` meets its contract: two bytes, then payload. Assumes nothing.
 use mathlib.Core.Path.{_≡_, refl, ap, _∙_}
 use native.Mathlib.Omega.{arith}
 use lib.ListN.{length, length-set}
 use lib.Seq.{length-take-le}
-use Rattle.talk_frames.proofs.Laws.{two-long, first-done}
+use Rattle.framing.proofs.Laws.{two-long, first-done}
 use borrow.Author.Needs.{needs}
-use Rattle.talk_frames.proofs.first.Statement.{statement}
-use Rattle.talk_frames.proofs.first.Tie as tie
+use Rattle.framing.proofs.first.Statement.{statement}
+use Rattle.framing.proofs.first.Tie as tie
 
 -- src/lib.rt:72:20
 cast-d : tie.Need-cast-d

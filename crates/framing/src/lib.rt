@@ -6,7 +6,7 @@ ghost use lib.ListN.{length, drop};
 ghost use Rattle.machine.specs.Message.{Rec};
 ghost use Rattle.iso.specs.Limits.{idSize, mostPayload, inSingle, inFirst, inNext};
 ghost use Rattle.iso.specs.Iso.{Talk, Stage, numberAfter, singleFrame, firstFrame, nextFrame, flowFrame};
-ghost use Rattle.talk_frames.specs.Data.{frameRoom, Carries, takenOf};
+ghost use Rattle.framing.specs.Data.{frameRoom, Carries, takenOf};
 
 // The bytes of a frame's data.
 pub const FRAME: usize = 8;

@@ -1,12 +1,12 @@
--- `talk_frames::single` meets its contract: one byte, then payload. Assumes nothing.
+-- `framing::single` meets its contract: one byte, then payload. Assumes nothing.
 use mathlib.Core.Path.{_≡_, refl, ap}
 use Prim.Native.Nat.{_+_, _-_}
 use native.Mathlib.Omega.{arith}
 use lib.ListN.{length, length-set}
-use Rattle.talk_frames.proofs.Laws.{one-long, single-done}
+use Rattle.framing.proofs.Laws.{one-long, single-done}
 use borrow.Author.Needs.{needs}
-use Rattle.talk_frames.proofs.single.Statement.{statement}
-use Rattle.talk_frames.proofs.single.Tie as tie
+use Rattle.framing.proofs.single.Statement.{statement}
+use Rattle.framing.proofs.single.Tie as tie
 
 -- src/lib.rt:84:15
 add-end : tie.Need-add-end
