@@ -1,5 +1,4 @@
 pub mod One
 pub mod Bytes
-pub mod Passing
 pub mod Listening
 pub mod Region

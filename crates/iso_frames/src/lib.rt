@@ -2,18 +2,17 @@
 ghost use mathlib.Core.Path.{_≡_};
 ghost use mathlib.Core.Bool.{true};
 ghost use mathlib.Core.Option.{none};
-ghost use Prim.Native.Nat.{ℕ, _+_, _≤_, _<_};
+ghost use Prim.Native.Nat.{ℕ, _≤_, _<_};
 ghost use lib.Dec.{T};
 ghost use lib.ListN.{length, getD, drop};
 ghost use Rattle.codec.specs.Code.{slot};
 ghost use Rattle.machine.specs.Limits.{mostBytes};
 ghost use Rattle.machine.specs.Channel.{frameCode};
-ghost use Rattle.iso.specs.Limits.{mostTalks, mostHeard, mostPayload};
-ghost use Rattle.iso.specs.Iso.{Talk, ready, arriveIso, onIsoFrame};
-ghost use Rattle.iso_layout.specs.Sizes.{talkSize, heardSize, isoRegionSize};
-ghost use Rattle.iso_layout.specs.Region.{talkCell, heardPart, readyPart, isoRegion};
+ghost use Rattle.iso.specs.Limits.{mostTalks};
+ghost use Rattle.iso.specs.Iso.{ready, onIsoFrame};
+ghost use Rattle.iso_layout.specs.Sizes.{talkSize, isoRegionSize};
+ghost use Rattle.iso_layout.specs.Region.{talkCell, readyPart, isoRegion};
 ghost use Rattle.iso_layout.specs.Promise.{IsoOpened};
-ghost use Rattle.talk_telling.specs.Telling.{told, Short};
 ghost use Rattle.iso_frames.specs.Frame.{concerned, hearsAt};
 use iso_places::HEARD;
 use iso_places::LAST;
@@ -22,15 +21,11 @@ use iso_places::MOST_PAYLOAD;
 use iso_places::PATTERN_IN;
 use iso_places::TALK_SIZE;
 use iso_places::TALKS_AT;
-use talk_telling::Told;
 
 // Where in a conversation's place its width mark stands; where in a region the second conversation does.
 const WIDTH_IN: usize = 1;
 
 const SECOND: usize = TALKS_AT + TALK_SIZE;
-
-// The bit of RxStatus that says that a reception began.
-const STARTED: u32 = 2;
 
 // Is a frame of this width and identifier anything to the conversation at a place?
 fn concerns(t: &[u8], wide: bool, id: u32) -> bool
@@ -38,24 +33,6 @@ fn concerns(t: &[u8], wide: bool, id: u32) -> bool
     ensures { λ r. ⌜ ((flags : ℕ) → T (slot (talkCell flags) .valid (now (t .entry))) → r ≡ concerned wide id (slot (talkCell flags) .get (now (t .entry)))) ⌝ }
 {
     (t[0] == 1) & ((wide == (t[WIDTH_IN] == 1)) & (id == integers::word_at(t, PATTERN_IN)))
-}
-
-// What the conversation of a width and an identifier told arrives in the receive queue.
-fn pass(q: &mut [u8], clock: u32, wide: bool, id: u32, said: Told, scratch: &[u8])
-    requires { ⌜ (length (now q) ≡ heardSize + 1) × (getD (now q) 0 0 ≤ mostHeard) × Short said × (length (now scratch) ≡ mostPayload) ⌝ }
-    ensures { λ u. ⌜ ((flags : ℕ) → T (heardPart flags .valid (now (q .entry))) → (c : Talk) → c .wide ≡ wide → c .pattern ≡ id → now (q .exit) ≡ heardPart flags .put (arriveIso (heardPart flags .get (now (q .entry))) (told said clock c (now (scratch .entry))))) ⌝ }
-{
-    match said {
-        Told::Silence => {}
-        Told::Start => iso_queue::arrive(
-            q,
-            clock,
-            can::width_flag(wide) + STARTED,
-            id,
-            &scratch[0..0],
-        ),
-        Told::Message(n) => iso_queue::arrive(q, clock, can::width_flag(wide), id, &scratch[0..n]),
-    }
 }
 
 // The conversation at place k hears a frame that concerns it.
@@ -67,7 +44,7 @@ fn listen(r: &mut [u8], k: usize, clock: u32, wide: bool, id: u32, bytes: &[u8])
     let end = at + TALK_SIZE;
     let mut scratch = [0u8; MOST_PAYLOAD];
     let said = talk_frames::hear(&mut r[at..end], bytes, &mut scratch);
-    pass(&mut r[HEARD..LAST], clock, wide, id, said, &scratch);
+    iso_telling::pass(&mut r[HEARD..LAST], clock, wide, id, said, &scratch);
     iso_flights::disown(r);
 }
 

@@ -5,10 +5,10 @@ use denote.Ref.{now}
 use Rattle.iso.specs.Limits.{mostPayload}
 use Rattle.talk_telling.specs.declared.Told.{Told}
 use Rattle.talk_telling.specs.Telling.{Short}
-use Rattle.iso_frames.proofs.Passing.{none-passed, start-passed, message-passed, flag-small, part-few}
+use Rattle.iso_telling.proofs.Passing.{none-passed, start-passed, message-passed, flag-small, part-few}
 use borrow.Author.Needs.{needs}
-use Rattle.iso_frames.proofs.pass.Statement.{statement}
-use Rattle.iso_frames.proofs.pass.Tie as tie
+use Rattle.iso_telling.proofs.pass.Statement.{statement}
+use Rattle.iso_telling.proofs.pass.Tie as tie
 
 add-arrive : tie.Need-add-arrive
 add-arrive c = omega (arith, c .width-flag .ensures, flag-small (c .before .before .before .before .before .before .args .wide))
