@@ -30,7 +30,7 @@ use Rattle.receiving.specs.Outgoing.{Outgoing}
 highFirst : List ℕ → List ℕ
 highFirst w = getD w 3 0 ∷ getD w 2 0 ∷ getD w 1 0 ∷ getD w 0 0 ∷ []
 
-id-there : (a b c d : ℕ) (t : List ℕ) → T (all isByte (a ∷ b ∷ c ∷ d ∷ t)) → idBytes (idOf (a ∷ b ∷ c ∷ d ∷ t)) ≡ a ∷ b ∷ c ∷ d ∷ []
+pub id-there : (a b c d : ℕ) (t : List ℕ) → T (all isByte (a ∷ b ∷ c ∷ d ∷ t)) → idBytes (idOf (a ∷ b ∷ c ∷ d ∷ t)) ≡ a ∷ b ∷ c ∷ d ∷ []
 unfolding idBytes idOf word wordAt highFirst
 id-there a b c d t u =
     let u1 = right (isByte a) (all isByte (b ∷ c ∷ d ∷ t)) u in
