@@ -8,11 +8,8 @@ ghost use Rattle.layout.specs.Memory.{region};
 ghost use Rattle.iso_layout.specs.Region.{isoRegion};
 ghost use Rattle.memory.specs.Sizes.{isosAt, boxSize};
 ghost use Rattle.memory.specs.Memory.{valid as isValid};
-
-// Where the ISO 15765 regions begin, behind the raw ones; and the whole.
-pub const ISO_REGIONS: usize = places::MEMORY;
-
-pub const BOX: usize = ISO_REGIONS + places::LINES * iso_places::REGION;
+use box_places::BOX;
+use box_places::ISO_REGIONS;
 
 // Are the four raw regions valid?
 fn raw_rows(mem: &[u8]) -> bool

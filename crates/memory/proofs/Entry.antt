@@ -8,7 +8,7 @@ use mathlib.Core.Bool.{Bool, true, false, true≢false, _||_}
 use mathlib.Core.List.{List, []}
 use lib.ListN.{length, getD, set, take, drop}
 use lib.Seq.{length-take-le, getD-take, getD-drop}
-use lib.Dec.{T, eqb, eqb→eq}
+use lib.Dec.{T, eqb, eqb→eq, lit<}
 use borrow.Rule.Slice.PartMut.{putMid, midOf, put-same}
 use Rattle.codec.specs.Plain.{if_then_else_}
 use Rattle.codec.specs.Code.{via, slot}
@@ -16,15 +16,17 @@ use Rattle.codec.proofs.Tests.{true-T, or-left}
 use Rattle.machine.specs.Limits.{lines}
 use Rattle.machine.specs.Channel.{Chan, closed, opened, Call, lent, Answer, says, onCall, isOpen, notes, noted}
 use Rattle.machine.specs.Device.{Event, call}
-use Rattle.machine.proofs.Refusals.{open-opens}
+use Rattle.machine.proofs.Refusals.{open-codes, open-opens}
 use Rattle.layout.specs.Sizes.{regionSize, lastAt}
 use Rattle.layout.specs.Memory.{region}
 use Rattle.layout.specs.Promise.{Result, gives}
+use Rattle.layout.proofs.Held.{call-small}
 use Rattle.layout.proofs.Entry.{last-stored, set-middle}
 use Rattle.iso.specs.Iso.{Iso, shut, ready, onIsoCall, isReady, isoNotes, isoNoted}
-use Rattle.iso.proofs.Fair.{ready-readies}
+use Rattle.iso.proofs.Fair.{ready-codes, ready-readies}
 use Rattle.iso_layout.specs.Sizes.{isoLastAt}
 use Rattle.iso_layout.specs.Region.{isoRegion}
+use Rattle.iso_layout.proofs.Held.{code-small}
 use Rattle.iso_layout.proofs.Region.{iso-notes-stored}
 use Rattle.whole.specs.Device.{Device, step}
 use Rattle.whole.specs.Demands.{EightChannels}
@@ -40,6 +42,8 @@ use Rattle.memory.proofs.Rows.{Row, raws, isos, rowGives, region-is, re
 pub record Kind (C : Type 0) : Type 0 where
   pub row : Row C
   pub number : ℕ → ℕ
+  pub before : ℕ
+  pub numbers : (i : ℕ) → number i ≡ i + suc before
   pub on : List ℕ → ℕ → C → Call → C × Answer
   pub openly : C → Bool
   pub notes : ℕ → C → C
@@ -50,6 +54,8 @@ pub record Kind (C : Type 0) : Type 0 where
   pub silent : (c : C) (k : ℕ) → openly c ≡ false → notes k c ≡ c
   pub stored : (c : C) (k : ℕ) → T (openly c) → length (row .code .put c) ≡ row .size → set (row .code .put c) last (suc k) ≡ row .code .put (notes (suc k) c)
   pub opens : (rates : List ℕ) (now : ℕ) (c : C) (x : Call) → T (openly c) → T (openly (on rates now c x .0) || eqb (on rates now c x .1 .code) 0)
+  pub refuses : (rates : List ℕ) (now : ℕ) (c : C) (x : Call) → openly c ≡ false → on rates now c x ≡ (c, says 0x02 0 (lent x))
+  pub small : (rates : List ℕ) (now : ℕ) (c : C) (x : Call) → on rates now c x .1 .code < 256
   pub steps : (rates : List ℕ) (d : Device) (i : ℕ) (x : Call) → EightChannels d → i < lines
       → step rates d (call (number i) x) ≡ (row .put i (notes (on rates (d .clock) (row .chan i d) x .1 .code) (on rates (d .clock) (row .chan i d) x .0)) d, on rates (d .clock) (row .chan i d) x .1)
 
@@ -90,6 +96,26 @@ unfolding isReady onIsoCall
 iso-opens rates now shut x t = absurd t
 iso-opens rates now (ready o) x t = ready-readies rates now o x
 
+pub raw-refuses : (rates : List ℕ) (now : ℕ) (c : Chan) (x : Call) → isOpen c ≡ false → onCall rates now c x ≡ (c, says 0x02 0 (lent x))
+unfolding onCall isOpen
+raw-refuses rates now closed x h = refl
+raw-refuses rates now (opened o) x h = absurd (true≢false h)
+
+pub iso-refuses : (rates : List ℕ) (now : ℕ) (c : Iso) (x : Call) → isReady c ≡ false → onIsoCall rates now c x ≡ (c, says 0x02 0 (lent x))
+unfolding onIsoCall isReady
+iso-refuses rates now shut x h = refl
+iso-refuses rates now (ready o) x h = absurd (true≢false h)
+
+pub raw-small : (rates : List ℕ) (now : ℕ) (c : Chan) (x : Call) → onCall rates now c x .1 .code < 256
+unfolding onCall says
+raw-small rates now closed x = lit< tt
+raw-small rates now (opened o) x = call-small _ (open-codes rates now o x)
+
+pub iso-small : (rates : List ℕ) (now : ℕ) (c : Iso) (x : Call) → onIsoCall rates now c x .1 .code < 256
+unfolding onIsoCall says
+iso-small rates now shut x = lit< tt
+iso-small rates now (ready o) x = code-small _ (ready-codes rates now o x)
+
 -- raw CAN has the numbers 1 to 4, ISO 15765 5 to 8
 unfoldable pub rawKind : Kind Chan
 unfolding raws notes noted
@@ -97,6 +123,8 @@ rawKind =
     record {
       row = raws;
       number = λ i. i + 1;
+      before = 0;
+      numbers = λ i. refl;
       on = onCall;
       openly = isOpen;
       notes = notes;
@@ -107,6 +135,8 @@ rawKind =
       silent = raw-silent;
       stored = raw-stored;
       opens = raw-opens;
+      refuses = raw-refuses;
+      small = raw-small;
       steps = λ rates d i x w h. step-call rates d i x w h;
     }
 
@@ -116,6 +146,8 @@ isoKind =
     record {
       row = isos;
       number = λ i. i + 5;
+      before = lines;
+      numbers = λ i. refl;
       on = onIsoCall;
       openly = isReady;
       notes = isoNotes;
@@ -126,6 +158,8 @@ isoKind =
       silent = iso-silent;
       stored = iso-notes-stored;
       opens = iso-opens;
+      refuses = iso-refuses;
+      small = iso-small;
       steps = λ rates d i x w h. step-iso-call rates d i x w h;
     }
 

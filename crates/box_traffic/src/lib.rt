@@ -1,0 +1,34 @@
+// A channel's traffic, on a memory of the whole box that is known to be valid: write, read, take, sent.
+ghost use mathlib.Core.Path.{_≡_};
+ghost use mathlib.Core.List.{List, []};
+ghost use Prim.Native.Nat.{ℕ};
+ghost use lib.Dec.{T};
+ghost use Rattle.machine.specs.Channel.{write as writes};
+ghost use Rattle.machine.specs.Device.{call};
+ghost use Rattle.layout.specs.Promise.{gives};
+ghost use Rattle.memory.specs.Memory.{valid};
+ghost use Rattle.memory.specs.Promise.{outcome};
+use box_places::ISO_REGIONS;
+use codes::Answer;
+
+// Queues records to send, in order, until one is refused.
+pub fn write(mem: &mut [u8], channel: u32, n: u32, buffer: &[u8]) -> Answer
+    requires { ⌜ T (valid (now mem)) ⌝ }
+    ensures { λ a. ⌜ ((rates : List ℕ) → gives (a .code) (a .value) [] (now (mem .exit)) ≡ outcome rates (now (mem .entry)) (call channel (writes n (now (buffer .entry))))) ⌝ }
+{
+    let a = seats::region_of(mem, channel);
+    if a == 0 {
+        return Answer {
+            code: codes::ERR_INVALID_CHANNEL_ID,
+            value: 0,
+        };
+    }
+    if a < ISO_REGIONS {
+        let answer = writing::write(&mut mem[a..a + places::REGION], n, buffer);
+        noting::note(mem, a, answer.code);
+        return answer;
+    }
+    let answer = iso_writing::write(&mut mem[a..a + iso_places::REGION], n, buffer);
+    iso_settings::note(mem, a, answer.code);
+    answer
+}

@@ -1,0 +1,39 @@
+// Where the region of a channel is, in a memory of the whole box that is known to be valid.
+ghost use Prim.Native.Nat.{_≤_, _-_};
+ghost use mathlib.Core.Path.{_≡_};
+ghost use lib.Dec.{T};
+ghost use Rattle.whole.specs.Device.{channels};
+ghost use Rattle.memory.specs.Memory.{valid};
+ghost use Rattle.memory.specs.Promise.{Placed};
+ghost use Rattle.memory.specs.Runs.{placeAt};
+use places::LINES;
+
+// Where the region of the channel of a number begins: the raw ones first, then the ISO 15765 ones.
+fn begins(number: usize) -> usize
+    requires { ⌜ (1 ≤ number) × (number ≤ channels) ⌝ }
+    ensures { λ r. ⌜ r ≡ placeAt (number - 1) ⌝ }
+{
+    if number > LINES {
+        return box_places::ISO_REGIONS + (number - 1 - LINES) * iso_places::REGION;
+    }
+    places::REGIONS + (number - 1) * places::REGION
+}
+
+// Where the region of an open channel begins: 0 where no channel of that number is open. Its place tells the kind of channel.
+pub fn region_of(mem: &[u8], channel: u32) -> usize
+    requires { ⌜ T (valid (now mem)) ⌝ }
+    ensures { λ r. ⌜ Placed (now (mem .entry)) channel r ⌝ }
+{
+    let number = channel as usize;
+    if number < 1 {
+        return 0;
+    }
+    if number > box_places::CHANNELS {
+        return 0;
+    }
+    let base = begins(number);
+    if mem[base] == 0 {
+        return 0;
+    }
+    base
+}
