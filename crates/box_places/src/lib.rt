@@ -6,7 +6,7 @@ ghost use Rattle.box_places.specs.Named.{named};
 // Four raw CAN channels and four ISO 15765 channels.
 pub const CHANNELS: usize = places::LINES + places::LINES;
 // The ISO 15765 regions lie behind the raw ones, of which there are four; then the memory ends.
-pub const ISO_REGIONS: usize = places::MEMORY;
+pub const ISO_REGIONS: usize = places::REGIONS + places::REGIONS_SIZE;
 
 pub const BOX: usize = ISO_REGIONS + places::LINES * iso_places::REGION;
 

@@ -98,12 +98,6 @@ lastAt = receivingEnd
 abbrev pub regionSize : ℕ
 regionSize = lastAt + 1
 
--- ---- the memory: the clock, then the region of each line
-abbrev pub regionAt : ℕ → ℕ
-regionAt line = numberSize + line * regionSize
-
+-- ---- the regions of the four raw channels
 abbrev pub regionsSize : ℕ
 regionsSize = lines * regionSize
-
-abbrev pub memorySize : ℕ
-memorySize = numberSize + regionsSize

@@ -21,7 +21,7 @@ use Rattle.layout.specs.Sizes.{regionSize, lastAt}
 use Rattle.layout.specs.Memory.{region}
 use Rattle.layout.specs.Promise.{Result, gives}
 use Rattle.layout.proofs.Held.{call-small}
-use Rattle.layout.proofs.Entry.{last-stored, set-middle}
+use Rattle.layout.proofs.Noted.{last-stored, set-middle}
 use Rattle.iso.specs.Iso.{Iso, shut, ready, onIsoCall, isReady, isoNotes, isoNoted}
 use Rattle.iso.proofs.Fair.{ready-codes, ready-readies}
 use Rattle.iso_layout.specs.Sizes.{isoLastAt}

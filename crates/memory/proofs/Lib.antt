@@ -6,3 +6,4 @@ pub mod Seats
 pub mod Isolation
 pub mod Unique
 pub mod Demands
+pub mod Limits

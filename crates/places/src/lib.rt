@@ -85,15 +85,13 @@ pub const RECEIVING_END: usize = RECEIVING + RECEIVING_SIZE;
 pub const LAST: usize = RECEIVING_END;
 
 pub const REGION: usize = LAST + 1;
-// The memory: the clock, then the region of each line.
+// The memory begins with the clock; behind it lie the regions of the four raw channels.
 pub const REGIONS: usize = NUMBER;
 
 pub const REGIONS_SIZE: usize = LINES * REGION;
 
-pub const MEMORY: usize = REGIONS + REGIONS_SIZE;
-
 // Every number above, in order: those of the definitions.
-pub fn numbers() -> [usize; 43]
+pub fn numbers() -> [usize; 42]
     ensures { λ r. ⌜ r ≡ named ⌝ }
 {
     [
@@ -139,6 +137,5 @@ pub fn numbers() -> [usize; 43]
         LAST,
         REGION,
         REGIONS_SIZE,
-        MEMORY,
     ]
 }

@@ -1,4 +1,4 @@
--- What validity is of the parts of a region, of a region and of the whole memory, as code finds it out. Assumes nothing.
+-- What validity is of the parts of a region and of a region, as code finds it out. Assumes nothing.
 use mathlib.Core.Path.{_≡_, refl, sym, ap, ap₂, _∙_}
 use Prim.Native.Nat.{ℕ, zero, suc, _+_, _-_}
 use native.Mathlib.Omega.{arith}
@@ -7,19 +7,18 @@ use mathlib.Core.List.{List}
 use lib.ListN.{length, getD, take, drop}
 use lib.Seq.{getD-take, drop-drop}
 use lib.Dec.{leb}
-use borrow.Author.Tests.{eq-eqb, ne-eqb}
 use Rattle.codec.specs.Plain.{member, allZero}
 use Rattle.codec.specs.Word.{wordAt}
-use Rattle.codec.specs.Code.{Code, byte, word32, both, bothOn, via, such, mark, many, slot, upTo, upToOne, validAll, validSlot}
+use Rattle.codec.specs.Code.{Code, byte, word32, both, bothOn, via, such, mark, slot, upTo, upToOne, validSlot}
 use Rattle.codec.proofs.Word.{word-part, word-drop}
 use Rattle.machine.specs.Codes.{threeRates, callCodes}
 use Rattle.machine.specs.Channel.{isFlags}
-use Rattle.machine.specs.Limits.{lines, mostWritten, mostToRead}
-use Rattle.layout.specs.Sizes.{numberSize, configSize, filtersSize, periodicsSize, writtenSize, flightSize, queueSize, sendingSize, receivingSize, flagsAt, filtersAt, periodicsAt, receivingAt, lastAt, regionSize, memorySize}
+use Rattle.machine.specs.Limits.{mostWritten, mostToRead}
+use Rattle.layout.specs.Sizes.{configSize, filtersSize, periodicsSize, writtenSize, flightSize, queueSize, sendingSize, receivingSize, flagsAt, filtersAt, periodicsAt, receivingAt, lastAt, regionSize}
 use Rattle.layout.specs.Record.{outCell, inCell}
-use Rattle.layout.specs.Memory.{configFits, config, filters, periodics, sendingPart, receivingPart, lastPart, rest, openPart, region, memory, valid}
+use Rattle.layout.specs.Memory.{configFits, config, filters, periodics, sendingPart, receivingPart, lastPart, rest, openPart, region}
 use Rattle.layout.proofs.Places.{Ends, Behind}
-use Rattle.layout.proofs.Sizes.{filters-size, periodics-size, written-size, queue-size, sending-size, receiving-size, config-size, memory-size}
+use Rattle.layout.proofs.Sizes.{filters-size, periodics-size, written-size, queue-size, sending-size, receiving-size, config-size}
 use Rattle.stored_records.specs.Held.{cell}
 use Rattle.ten_places.specs.Place.{placesValid}
 use Rattle.stored_records.proofs.Parts.{Bytes, less, rest-part, behind-word, both-is, mark-is, byte-valid, at-rest}
@@ -131,14 +130,3 @@ module _ (m : List ℕ) where
       go zero a b = absurd (a refl)
       go (suc zero) a b = absurd (b refl)
       go (suc (suc k)) a b = refl
-
--- ---- the whole
-
-pub not-long : (m : List ℕ) → (length m ≡ memorySize → ⊥) → false ≡ valid m
-unfolding valid
-not-long m h = sym (ap (λ (b : Bool). b && memory .valid m) (ne-eqb (length m) (memory .size) (λ e. h (e ∙ memory-size))))
-
-pub valid-is : (m : List ℕ) → length m ≡ memorySize → Bytes m → (good : Bool) → good ≡ validAll region lines (drop numberSize m) → good ≡ valid m
-unfolding valid memory via many
-valid-is m h t good g =
-    g ∙ sym (behind-word (many lines region) m t) ∙ ap (λ (b : Bool). b && both word32 (many lines region) .valid m) (sym (eq-eqb (length m) (memory .size) (h ∙ sym memory-size)))

@@ -1,4 +1,4 @@
-// Is this a device memory? Each function decides what one part of the layout calls valid, and the cost grows with what is held.
+// Is this the region of a raw channel? Each function decides what one part of the layout calls valid, and the cost grows with what is held.
 use can::is_flags;
 use can::is_known_rate;
 use integers::wide;
@@ -10,7 +10,6 @@ ghost use mathlib.Core.Path.{_≡_};
 ghost use lib.ListN.{length, drop};
 ghost use Rattle.layout.specs.Sizes.{configSize, sendingSize, receivingSize, flagsAt, regionSize};
 ghost use Rattle.layout.specs.Memory.{config, sendingPart, receivingPart, openPart, region};
-ghost use Rattle.layout.specs.Memory.{valid as isValid};
 
 // In the configuration, behind the flags; in the sending part, behind the periodics.
 const RATE_IN: usize = places::RATE - places::FLAGS;
@@ -79,22 +78,4 @@ pub fn region_valid(s: &[u8]) -> bool
         return opened(s);
     }
     false
-}
-
-// Is this a device memory?
-pub fn valid(mem: &[u8]) -> bool
-    ensures { λ r. ⌜ r ≡ isValid (now (mem .entry)) ⌝ }
-{
-    if mem.len() != places::MEMORY {
-        return false;
-    }
-    let mut good = true;
-    let mut i = 0;
-    while i < places::LINES {
-        let a = places::REGIONS + i * places::REGION;
-        let e = a + places::REGION;
-        good = good & region_valid(&mem[a..e]);
-        i += 1;
-    }
-    good
 }
