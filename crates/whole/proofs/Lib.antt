@@ -3,3 +3,4 @@ pub mod Isolation
 pub mod Refusals
 pub mod FromPowerOn
 pub mod Traces
+pub mod Counts
