@@ -1,33 +1,32 @@
 -- Starting a flow-control filter on the region of an open ISO 15765 channel: what a start that is not refused knows of its records and of the two places,
 -- and what it leaves. Assumes nothing.
-use mathlib.Core.Path.{_≡_, refl, sym, ap, _∙_, subst}
+use mathlib.Core.Path.{_≡_, refl, sym, ap, _∙_}
 use Prim.Native.Nat.{ℕ, suc, zero, _+_, _*_, _≤_, _<_, _/_, _%_}
 use native.Mathlib.Omega.{arith}
-use mathlib.Core.Bool.{Bool, true, false, not, _&&_, _||_}
+use mathlib.Core.Bool.{Bool, true, false, not, _&&_}
 use mathlib.Core.Option.{Option, none, some}
-use mathlib.Core.List.{List, [], _∷_}
+use mathlib.Core.List.{List, []}
 use lib.ListN.{length, getD, set, take, drop}
-use lib.Dec.{T, eqb, leb, ltb, eqb→eq}
-use borrow.Author.Tests.{eq-eqb, ne-eqb, leb-false}
+use lib.Dec.{T, eqb, leb, eqb→eq}
+use borrow.Author.Tests.{ne-eqb, leb-false}
 use borrow.Rule.Slice.PartMut.{putMid}
 use Rattle.codec.specs.Plain.{zeros}
 use Rattle.codec.specs.Code.{slot}
 use Rattle.codec.proofs.Tests.{true-T}
 use Rattle.codec.proofs.Part.{Part}
 use Rattle.machine.specs.Limits.{recordSize, dataIn}
-use Rattle.machine.specs.Codes.{codeOf}
-use Rattle.machine.specs.Message.{bit, idOf, sizeOf, txFlagsOf, wideOf, dataOf}
+use Rattle.machine.specs.Message.{bit, idOf, sizeOf, wideOf, dataOf}
 use Rattle.machine.specs.Filter.{Slots, free, taken}
-use Rattle.machine.specs.Channel.{lent, says, startFilter, startFlow}
+use Rattle.machine.specs.Channel.{says, startFlow}
 use Rattle.machine.proofs.Slots.{free-more, free-here}
 use Rattle.message.proofs.Laws.{id-of-data}
 use Rattle.layout.specs.Promise.{gives}
 use Rattle.layout.proofs.Tables as tables
-use Rattle.iso.specs.Limits.{idSize, mostTalks, isoRecordSize}
-use Rattle.iso.specs.Iso.{Talk, OpenIso, Iso, IsoOutcome, ready, shut, idle, shorterIso, did, unlessIso, setTalks, talkCode, talkOf, onStartTalk, onReady, onIsoCall}
+use Rattle.iso.specs.Limits.{idSize, mostTalks}
+use Rattle.iso.specs.Iso.{Talk, OpenIso, Iso, IsoOutcome, ready, idle, shorterIso, did, unlessIso, setTalks, talkCode, talkOf, onStartTalk, onReady}
 use Rattle.iso_layout.specs.Sizes.{talkSize, talksAt}
 use Rattle.iso_layout.specs.Region.{talkCell, isoRegion}
-use Rattle.iso_layout.specs.Promise.{IsoOpened, isoGives, isoOutcome}
+use Rattle.iso_layout.specs.Promise.{IsoOpened, isoOutcome}
 use Rattle.iso_layout.proofs.Good.{fli}
 use Rattle.iso_layout.proofs.Region.{readyOf, is-ready, lies, talk-part, moves, stays}
 use Rattle.iso_clearing.proofs.Laws.{none-zeros}
@@ -144,14 +143,3 @@ module _ (r : List ℕ) (f : IsoOpened r) (type : ℕ) (mask pattern flow : List
     second-place n =
         let z : talksAt ≡ talksAt + 0 * talkSize = omega arith in
         second-free (o .talks) (two-places r f) room (sym (taken-at r f 0 (omega arith)) ∙ ap not (ne-eqb _ 0 (λ e. n (ap (λ (j : ℕ). getD r j 0) z ∙ e))))
-
--- ---- a start filter that lends no third record is one that lends an empty one
-
-same-call : (rates : List ℕ) (t : ℕ) (c : Iso) (type : ℕ) (mask pattern : List ℕ) → onIsoCall rates t c (startFlow type mask pattern []) ≡ onIsoCall rates t c (startFilter type mask pattern)
-unfolding onIsoCall onReady lent
-same-call rates t shut type mask pattern = refl
-same-call rates t (ready o) type mask pattern = refl
-
-pub no-third : (rates : List ℕ) (t : ℕ) (r : List ℕ) (type : ℕ) (mask pattern : List ℕ) → isoOutcome rates t r (startFlow type mask pattern []) ≡ isoOutcome rates t r (startFilter type mask pattern)
-unfolding isoOutcome
-no-third rates t r type mask pattern = ap isoGives (same-call rates t (isoRegion .get r) type mask pattern)
