@@ -1,32 +1,14 @@
-// What concerns a line or the whole box, on a memory of the whole box that is known to be valid: a frame, time that goes on, close.
+// What concerns the whole box, on a memory of the whole box that is known to be valid: close.
 ghost use mathlib.Core.Path.{_≡_};
-ghost use mathlib.Core.List.{List, [], map};
-ghost use Prim.Native.Nat.{ℕ, _*_, _≤_};
+ghost use mathlib.Core.List.{List, []};
+ghost use Prim.Native.Nat.{ℕ};
 ghost use lib.Dec.{T};
-ghost use lib.ListN.{length};
-ghost use Rattle.codec.specs.Code.{many};
-ghost use Rattle.machine.specs.Limits.{lines, mostAdvance};
-ghost use Rattle.machine.specs.Channel.{frameCode, onFrame, onAdvance};
 ghost use Rattle.machine.specs.Device.{close as closes};
-ghost use Rattle.machine.specs.Device.{advance as advances};
-ghost use Rattle.machine.specs.Device.{frame as framed};
-ghost use Rattle.layout.specs.Sizes.{regionSize};
-ghost use Rattle.layout.specs.Memory.{region};
 ghost use Rattle.layout.specs.Promise.{gives};
-ghost use Rattle.iso.specs.Iso.{onIsoAdvance};
-ghost use Rattle.iso_layout.specs.Sizes.{isoRegionSize};
-ghost use Rattle.iso_layout.specs.Region.{isoRegion};
 ghost use Rattle.memory.specs.Memory.{valid};
 ghost use Rattle.memory.specs.Promise.{outcome};
 use box_places::BOX;
-use box_places::ISO_REGIONS;
-use clock::Clock;
-use places::LINES;
-use places::NUMBER;
 use places::REGIONS;
-
-// The longest advance in microseconds.
-const MOST_ADVANCE: u32 = 1000000;
 
 // Disconnects all; the clock runs on.
 pub fn close(mem: &mut [u8]) -> u32
@@ -34,78 +16,5 @@ pub fn close(mem: &mut [u8]) -> u32
     ensures { λ c. ⌜ ((rates : List ℕ) → gives c 0 [] (now (mem .exit)) ≡ outcome rates (now (mem .entry)) closes) ⌝ }
 {
     octets::zero(&mut mem[REGIONS..BOX]);
-    codes::STATUS_NOERROR
-}
-
-// A good frame at a clock, on the region of a raw channel, open or closed.
-fn offer(r: &mut [u8], clock: u32, wide: u32, id: u32, bytes: &[u8])
-    requires { ⌜ (length (now r) ≡ regionSize) × T (region .valid (now r)) × (frameCode wide id (now bytes) ≡ 0x00) ⌝ }
-    ensures { λ u. ⌜ now (r .exit) ≡ region .put (onFrame clock (region .get (now (r .entry))) wide id (now (bytes .entry))) ⌝ }
-{
-    if r[0] == 0 {
-        return;
-    }
-    frames::offer(r, clock, wide == 1, id, bytes);
-}
-
-// A frame from a line: refused by its own tests, else offered to the line's raw channel and to its ISO 15765 channel.
-pub fn frame(mem: &mut [u8], line: u32, wide: u32, id: u32, bytes: &[u8]) -> u32
-    requires { ⌜ T (valid (now mem)) ⌝ }
-    ensures { λ c. ⌜ ((rates : List ℕ) → gives c 0 [] (now (mem .exit)) ≡ outcome rates (now (mem .entry)) (framed line wide id (now (bytes .entry)))) ⌝ }
-{
-    let index = line as usize;
-    if index >= LINES {
-        return codes::ERR_PIN_INVALID;
-    }
-    let code = frames::frame_code(wide, id, bytes);
-    if code != codes::STATUS_NOERROR {
-        return code;
-    }
-    let now = integers::word_at(mem, 0);
-    let a = REGIONS + index * places::REGION;
-    offer(&mut mem[a..a + places::REGION], now, wide, id, bytes);
-    let b = ISO_REGIONS + index * iso_places::REGION;
-    iso_frames::frame(&mut mem[b..b + iso_places::REGION], now, wide, id, bytes);
-    codes::STATUS_NOERROR
-}
-
-// Every raw channel's periodics move on.
-fn advance_raws(s: &mut [u8], us: u32)
-    requires { ⌜ (length (now s) ≡ lines * regionSize) × T (many lines region .valid (now s)) × (us ≤ mostAdvance) ⌝ }
-    ensures { λ u. ⌜ now (s .exit) ≡ many lines region .put (map (onAdvance us) (many lines region .get (now (s .entry)))) ⌝ }
-{
-    let mut i = 0;
-    while i < LINES {
-        let a = i * places::REGION;
-        timers::later(&mut s[a..a + places::REGION], us);
-        i += 1;
-    }
-}
-
-// Every ISO 15765 channel's conversations move on.
-fn advance_isos(s: &mut [u8], us: u32)
-    requires { ⌜ (length (now s) ≡ lines * isoRegionSize) × T (many lines isoRegion .valid (now s)) × (us ≤ mostAdvance) ⌝ }
-    ensures { λ u. ⌜ now (s .exit) ≡ many lines isoRegion .put (map (onIsoAdvance us) (many lines isoRegion .get (now (s .entry)))) ⌝ }
-{
-    let mut i = 0;
-    while i < LINES {
-        let a = i * iso_places::REGION;
-        iso_timers::later(&mut s[a..a + iso_places::REGION], us);
-        i += 1;
-    }
-}
-
-// Time goes on, for the clock and every channel.
-pub fn advance(mem: &mut [u8], us: u32) -> u32
-    requires { ⌜ T (valid (now mem)) ⌝ }
-    ensures { λ c. ⌜ ((rates : List ℕ) → gives c 0 [] (now (mem .exit)) ≡ outcome rates (now (mem .entry)) (advances us)) ⌝ }
-{
-    if us > MOST_ADVANCE {
-        return codes::ERR_INVALID_TIME_INTERVAL;
-    }
-    let clock = Clock::at(integers::word_at(mem, 0)).advance(us);
-    advance_raws(&mut mem[REGIONS..ISO_REGIONS], us);
-    advance_isos(&mut mem[ISO_REGIONS..BOX], us);
-    integers::put_word(&mut mem[0..NUMBER], clock.us);
     codes::STATUS_NOERROR
 }

@@ -1,9 +1,9 @@
--- `box_lines::offer` meets its contract. Assumes nothing.
+-- `box_frames::offer` meets its contract. Assumes nothing.
 use borrow.Author.Needs.{needs}
 use Rattle.iso_frames.proofs.Region.{short-frame}
-use Rattle.box_lines.proofs.Laws.{not-closed, offer-closed, offer-open}
-use Rattle.box_lines.proofs.offer.Statement.{statement}
-use Rattle.box_lines.proofs.offer.Tie as tie
+use Rattle.box_frames.proofs.Laws.{not-closed, offer-closed, offer-open}
+use Rattle.box_frames.proofs.offer.Statement.{statement}
+use Rattle.box_frames.proofs.offer.Tie as tie
 
 offer-requires : tie.Need-offer-requires
 offer-requires c κs =

@@ -1,4 +1,4 @@
--- `box_lines::advance_raws` meets its contract. Assumes nothing.
+-- `box_times::advance_raws` meets its contract. Assumes nothing.
 use mathlib.Core.Path.{_≡_, refl}
 use mathlib.Core.List.{List}
 use Prim.Native.Nat.{ℕ, _+_, _*_, _-_, _≤_}
@@ -15,10 +15,10 @@ use Rattle.layout.proofs.Memory.{region-lawful}
 use Rattle.layout.proofs.Sizes.{region-size}
 use Rattle.layout.proofs.Good.{fine-closed}
 use Rattle.memory.proofs.Lines.{turns-start, turn-lent, turn-made, turns-done}
-use Rattle.box_lines.proofs.Laws.{advance-keeps}
+use Rattle.box_times.proofs.Laws.{advance-keeps}
 use borrow.Author.Needs.{needs}
-use Rattle.box_lines.proofs.advance_raws.Statement.{statement}
-use Rattle.box_lines.proofs.advance_raws.Tie as tie
+use Rattle.box_times.proofs.advance_raws.Statement.{statement}
+use Rattle.box_times.proofs.advance_raws.Tie as tie
 
 abbrev Inv-loop : tie.InvT-loop
 Inv-loop s₀ us i₀ s i = (i ≤ lines) × (s ≡ putAll region (turned (onAdvance us) i (many lines region .get s₀))) × (length s ≡ length s₀)

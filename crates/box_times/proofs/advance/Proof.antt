@@ -1,13 +1,13 @@
--- `box_lines::advance` meets its contract. Assumes nothing.
+-- `box_times::advance` meets its contract. Assumes nothing.
 use mathlib.Core.Path.{ap, _∙_}
 use mathlib.Core.List.{[]}
 use Prim.Native.Nat.{ℕ, _+_, _%_}
 use native.Mathlib.Omega.{arith}
 use borrow.Author.Needs.{needs}
 use Rattle.memory.proofs.Memory.{valid-long}
-use Rattle.box_lines.proofs.Laws.{advance-refused, raws-lent, isos-lent, advanced-long, advanced}
-use Rattle.box_lines.proofs.advance.Statement.{statement}
-use Rattle.box_lines.proofs.advance.Tie as tie
+use Rattle.box_times.proofs.Laws.{advance-refused, raws-lent, isos-lent, advanced-long, advanced}
+use Rattle.box_times.proofs.advance.Statement.{statement}
+use Rattle.box_times.proofs.advance.Tie as tie
 
 advance-isos-requires : tie.Need-advance-isos-requires
 advance-isos-requires c κs =

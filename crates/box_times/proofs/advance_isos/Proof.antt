@@ -1,4 +1,4 @@
--- `box_lines::advance_isos` meets its contract. Assumes nothing.
+-- `box_times::advance_isos` meets its contract. Assumes nothing.
 use mathlib.Core.Path.{_≡_, refl}
 use mathlib.Core.List.{List}
 use Prim.Native.Nat.{ℕ, _+_, _*_, _-_, _≤_}
@@ -15,10 +15,10 @@ use Rattle.iso_layout.proofs.Lawful.{isoRegion-lawful}
 use Rattle.iso_layout.proofs.Sizes.{isoRegion-size}
 use Rattle.iso_layout.proofs.Good.{fine-shut}
 use Rattle.memory.proofs.Lines.{turns-start, turn-lent, turn-made, turns-done}
-use Rattle.box_lines.proofs.Laws.{iso-advance-keeps}
+use Rattle.box_times.proofs.Laws.{iso-advance-keeps}
 use borrow.Author.Needs.{needs}
-use Rattle.box_lines.proofs.advance_isos.Statement.{statement}
-use Rattle.box_lines.proofs.advance_isos.Tie as tie
+use Rattle.box_times.proofs.advance_isos.Statement.{statement}
+use Rattle.box_times.proofs.advance_isos.Tie as tie
 
 abbrev Inv-loop : tie.InvT-loop
 Inv-loop s₀ us i₀ s i = (i ≤ lines) × (s ≡ putAll isoRegion (turned (onIsoAdvance us) i (many lines isoRegion .get s₀))) × (length s ≡ length s₀)

@@ -1,13 +1,13 @@
--- `box_lines::frame` meets its contract. Assumes nothing.
+-- `box_frames::frame` meets its contract. Assumes nothing.
 use mathlib.Core.Path.{sym, _∙_}
 use mathlib.Core.List.{[]}
 use native.Mathlib.Omega.{arith}
 use borrow.Author.Needs.{needs}
 use Rattle.codec.proofs.Lists.{bytes-of}
 use Rattle.memory.proofs.Memory.{valid-long}
-use Rattle.box_lines.proofs.Laws.{frame-no-line, frame-refused, raw-lent, iso-lent, framed}
-use Rattle.box_lines.proofs.frame.Statement.{statement}
-use Rattle.box_lines.proofs.frame.Tie as tie
+use Rattle.box_frames.proofs.Laws.{frame-no-line, frame-refused, raw-lent, iso-lent, framed}
+use Rattle.box_frames.proofs.frame.Statement.{statement}
+use Rattle.box_frames.proofs.frame.Tie as tie
 
 offer-requires : tie.Need-offer-requires
 offer-requires c κs =
