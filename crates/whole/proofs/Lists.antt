@@ -268,6 +268,17 @@ get-in-row rates i (p ∷ ps) d a h = by (either (s .1 .code)) (get-in-row rates
     by (inl e) rec = rw (eq-eqb (s .1 .code) 0 e) (get-step rates d i a p ps h e ∙ ap with-value (rec ∙ ap more (sym (get-leaves-all rates d i a p e))))
     by (inr n) rec = rw (ne-eqb (s .1 .code) 0 n) (get-stop rates d i a p ps h n)
 
+-- a list's answer is its code alone
+pub list-value : (rates : List ℕ) (i : ℕ) (ps : Pairs) (d : Device) → OpenAt i d → length ps ≤ mostPairs → step rates d (call (i + 1) (getList ps)) .1 .value ≡ 0
+unfolding says
+list-value rates i [] d a h = ap (λ (s : Device × Answer). s .1 .value) (get-none rates d i a)
+list-value rates i (p ∷ ps) d a h = by (either (step rates d (call (i + 1) (getParameter (p .0))) .1 .code))
+  where
+    by : (step rates d (call (i + 1) (getParameter (p .0))) .1 .code ≡ 0) ⊎ (step rates d (call (i + 1) (getParameter (p .0))) .1 .code ≡ 0 → ⊥)
+        → step rates d (call (i + 1) (getList (p ∷ ps))) .1 .value ≡ 0
+    by (inl e) = ap (λ (s : Device × Answer). s .1 .value) (get-step rates d i a p ps h e)
+    by (inr n) = ap (λ (s : Device × Answer). s .1 .value) (get-stop rates d i a p ps h n)
+
 -- ---- ONE PAIR IS THE SINGLE CALL
 
 -- the answer of a single get, in a list of one pair
