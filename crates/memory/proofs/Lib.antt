@@ -6,5 +6,6 @@ pub mod Entry
 pub mod Seats
 pub mod Isolation
 pub mod Unique
+pub mod Lists
 pub mod Demands
 pub mod Limits
