@@ -26,3 +26,7 @@ module _ (channel : ℕ) where
       go : (b : Bool) → (if b then isoRecordSize else recordSize) ≤ isoRecordSize
       go true = omega arith
       go false = omega arith
+
+-- nor is a size that is a channel's
+pub record-fits : (channel : ℕ) {size : ℕ} → size ≡ recordOn channel → size ≤ isoRecordSize
+record-fits channel e = rw e (record-most channel)
