@@ -15,7 +15,8 @@ pub fn write(recording: &[u8], at: usize) -> Found
     let Pair::Two(channel, n, from) = event_parts::two(recording, at) else {
         return Found::Bad;
     };
-    let Part::Ends(end) = event_parts::part_end(recording, from, n, recording_sizes::RECORD) else {
+    let size = recording_sizes::record_on(channel);
+    let Part::Ends(end) = event_parts::part_end(recording, from, n, size) else {
         return Found::Bad;
     };
     Found::Good(
@@ -54,27 +55,40 @@ pub fn frame(recording: &[u8], at: usize) -> Found
     )
 }
 
-// The arguments of a start of a filter.
+// The arguments of a start of a filter: a mask and a pattern, and on channels 5 to 8 a flow.
 pub fn filter(recording: &[u8], at: usize) -> Found
     ensures { λ r. ⌜ ReadsArguments 6 (now (recording .entry)) at r ⌝ }
 {
     let Pair::Two(channel, kind, mask) = event_parts::two(recording, at) else {
         return Found::Bad;
     };
-    let Part::Ends(end) = event_parts::part_end(recording, mask, 2, recording_sizes::RECORD) else {
+    let size = recording_sizes::record_on(channel);
+    let Part::Ends(flow) = event_parts::part_end(recording, mask, 2, size) else {
         return Found::Bad;
     };
-    let pattern = mask + recording_sizes::RECORD;
-    Found::Good(
-        Event::Number(Giving::StartFilter {
+    let pattern = mask + size;
+    if !recording_sizes::on_iso(channel) {
+        let start = Giving::StartFilter {
             channel,
             kind,
             mask,
             pattern,
-            end,
-        }),
+            end: flow,
+        };
+        return Found::Good(Event::Number(start), flow);
+    }
+    let Part::Ends(end) = event_parts::part_end(recording, flow, 1, size) else {
+        return Found::Bad;
+    };
+    let start = Giving::StartFlow {
+        channel,
+        kind,
+        mask,
+        pattern,
+        flow,
         end,
-    )
+    };
+    Found::Good(Event::Number(start), end)
 }
 
 // The arguments of a start of a periodic.
@@ -88,7 +102,8 @@ pub fn periodic(recording: &[u8], at: usize) -> Found
     else {
         return Found::Bad;
     };
-    let Part::Ends(end) = event_parts::part_end(recording, from, 1, recording_sizes::RECORD) else {
+    let size = recording_sizes::record_on(channel);
+    let Part::Ends(end) = event_parts::part_end(recording, from, 1, size) else {
         return Found::Bad;
     };
     let Number::Value {

@@ -117,37 +117,52 @@ pieces-raw s at n unit {end} p = raw-there s at (unit * n) end (p .ends) (p .ins
 pub ones-long : (s : List ℕ) (at n : ℕ) {end : ℕ} → Pieces s at n 1 end → end - at ≡ n
 ones-long s at n p = omega (arith, p .ends)
 
+-- one record
+module _ (s : List ℕ) (at size : ℕ) where
+  pub record-there : {end : ℕ} → Pieces s at 1 size end → bytes size s at ≡ some (between s at end, end)
+  record-there {end} p = bytes-there s at size end (omega (arith, p .ends)) (p .inside)
+
+  pub record-raw : {end : ℕ} → Pieces s at 1 size end → raw size s at ≡ some (at ∷ end ∷ [], end)
+  record-raw {end} p = raw-there s at size end (omega (arith, p .ends)) (p .inside)
+
+  pub record-cut : length s < at + size * 1 → bytes size s at ≡ none
+  record-cut h = bytes-cut s at size (omega arith)
+
+  pub record-raw-cut : length s < at + size * 1 → raw size s at ≡ none
+  record-raw-cut h = raw-cut s at size (omega arith)
+
 -- two records in a row
-pub record TwoRecords (s : List ℕ) (at end : ℕ) : Type 0 where
-  pub first : bytes 36 s at ≡ some (between s at (at + 36), at + 36)
-  pub second : bytes 36 s (at + 36) ≡ some (between s (at + 36) end, end)
-  pub first-raw : raw 36 s at ≡ some (at ∷ (at + 36) ∷ [], at + 36)
-  pub second-raw : raw 36 s (at + 36) ≡ some ((at + 36) ∷ end ∷ [], end)
-  pub ends : end ≡ at + 72
+pub record TwoRecords (s : List ℕ) (at size end : ℕ) : Type 0 where
+  pub first : bytes size s at ≡ some (between s at (at + size), at + size)
+  pub second : bytes size s (at + size) ≡ some (between s (at + size) end, end)
+  pub first-raw : raw size s at ≡ some (at ∷ (at + size) ∷ [], at + size)
+  pub second-raw : raw size s (at + size) ≡ some ((at + size) ∷ end ∷ [], end)
+  pub ends : end ≡ at + size * 2
   pub inside : end ≤ length s
 
-pub records-there : (s : List ℕ) (at : ℕ) {end : ℕ} → Pieces s at 2 36 end → TwoRecords s at end
-records-there s at {end} p =
-    let e = p .ends in
-    let i = p .inside in
-    record {
-      first = bytes-there s at 36 (at + 36) refl (omega arith);
-      second = bytes-there s (at + 36) 36 end (omega arith) i;
-      first-raw = raw-there s at 36 (at + 36) refl (omega arith);
-      second-raw = raw-there s (at + 36) 36 end (omega arith) i;
-      ends = e;
-      inside = i;
-    }
+module _ (s : List ℕ) (at size : ℕ) where
+  pub records-there : {end : ℕ} → Pieces s at 2 size end → TwoRecords s at size end
+  records-there {end} p =
+      let e = p .ends in
+      let i = p .inside in
+      record {
+        first = bytes-there s at size (at + size) refl (omega arith);
+        second = bytes-there s (at + size) size end (omega arith) i;
+        first-raw = raw-there s at size (at + size) refl (omega arith);
+        second-raw = raw-there s (at + size) size end (omega arith) i;
+        ends = e;
+        inside = i;
+      }
 
--- they are cut short: the first is, or the second
-pub records-cut : (s : List ℕ) (at : ℕ) → length s < at + 36 * 2 → {G : Type 0} → (bytes 36 s at ≡ none → raw 36 s at ≡ none → G)
-    → (bytes 36 s at ≡ some (between s at (at + 36), at + 36) → bytes 36 s (at + 36) ≡ none → raw 36 s at ≡ some (at ∷ (at + 36) ∷ [], at + 36) → raw 36 s (at + 36) ≡ none → G) → G
-records-cut s at h {G} first later = go (leb (at + 36) (length s)) refl
-  where
-    go : (b : Bool) → leb (at + 36) (length s) ≡ b → G
-    go true q =
-        let one : at + 36 ≤ length s = leb-true (at + 36) (length s) q in
-        later (bytes-there s at 36 (at + 36) refl one) (bytes-cut s (at + 36) 36 (omega arith)) (raw-there s at 36 (at + 36) refl one) (raw-cut s (at + 36) 36 (omega arith))
-    go false q =
-        let short : length s < at + 36 = omega (arith, leb-false (at + 36) (length s) q) in
-        first (bytes-cut s at 36 short) (raw-cut s at 36 short)
+  -- they are cut short: the first is, or the second
+  pub records-cut : length s < at + size * 2 → {G : Type 0} → (bytes size s at ≡ none → raw size s at ≡ none → G)
+      → (bytes size s at ≡ some (between s at (at + size), at + size) → bytes size s (at + size) ≡ none → raw size s at ≡ some (at ∷ (at + size) ∷ [], at + size) → raw size s (at + size) ≡ none → G) → G
+  records-cut h {G} first later = go (leb (at + size) (length s)) refl
+    where
+      go : (b : Bool) → leb (at + size) (length s) ≡ b → G
+      go true q =
+          let one : at + size ≤ length s = leb-true (at + size) (length s) q in
+          later (bytes-there s at size (at + size) refl one) (bytes-cut s (at + size) size (omega arith)) (raw-there s at size (at + size) refl one) (raw-cut s (at + size) size (omega arith))
+      go false q =
+          let short : length s < at + size = omega (arith, leb-false (at + size) (length s) q) in
+          first (bytes-cut s at size short) (raw-cut s at size short)

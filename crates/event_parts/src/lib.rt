@@ -2,7 +2,7 @@
 ghost use mathlib.Core.Path.{_≡_};
 ghost use Prim.Native.Nat.{_≤_};
 ghost use lib.ListN.{length};
-ghost use Rattle.machine.specs.Limits.{recordSize};
+ghost use Rattle.iso.specs.Limits.{isoRecordSize};
 ghost use Rattle.event_parts.specs.Parts.{pairOf, twoNumbers, partOf, endOf};
 use number::Number;
 
@@ -37,7 +37,7 @@ pub fn two(recording: &[u8], at: usize) -> Pair
 
 // Where `n` pieces of `unit` bytes end: at most 64 of them, all in the recording.
 pub fn part_end(recording: &[u8], from: usize, n: u32, unit: usize) -> Part
-    requires { ⌜ (from ≤ length (now recording)) × (unit ≤ recordSize) ⌝ }
+    requires { ⌜ (from ≤ length (now recording)) × (unit ≤ isoRecordSize) ⌝ }
     ensures { λ r. ⌜ partOf r ≡ endOf (now (recording .entry)) from n unit ⌝ }
 {
     if n > recording_sizes::MOST {

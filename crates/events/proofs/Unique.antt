@@ -3,7 +3,9 @@ use Prim.Native.Nat.{ℕ}
 use mathlib.Core.List.{List, [], _∷_}
 use mathlib.Core.Option.{Option, none, some}
 use mathlib.Core.Path.{_≡_, refl, sym, ap, _∙_}
-use lib.ListN.{getD}
+use lib.Dec.{eqb}
+use lib.ListN.{length, getD}
+use Rattle.codec.specs.Plain.{if_then_else_}
 use Rattle.codec.specs.Settled.{Settled}
 use Rattle.events.specs.Found.{ReadsEvent}
 use Rattle.events.specs.Values.{saidBy}
@@ -14,31 +16,36 @@ use Rattle.events.specs.declared.Event.the-variants as event
 use Rattle.events.specs.declared.Found.{Found}
 use Rattle.events.specs.declared.Found.the-variants as found
 
--- the cases of the events 0 to 16, of which 0 is none, by their values
-abbrev cases : List ((ℕ → ℕ) → Event)
+-- the two starts of a filter, by how many values there are
+abbrev started : ℕ → (ℕ → ℕ) → Event
+started n v =
+    if eqb n 6 then event.Number (giving.StartFilter (v 0) (v 1) (v 2) (v 3) (v 5)) else event.Number (giving.StartFlow (v 0) (v 1) (v 2) (v 3) (v 5) (v 7))
+
+-- the cases of the events 0 to 16, of which 0 is none, by how many values there are and by those
+abbrev cases : List (ℕ → (ℕ → ℕ) → Event)
 cases =
-    (λ v. event.Code plain.Close)
-    ∷ (λ v. event.Number (giving.Connect (v 0) (v 1) (v 2) (v 3)))
-    ∷ (λ v. event.Code (plain.Disconnect (v 0)))
-    ∷ (λ v. event.Code plain.Close)
-    ∷ (λ v. event.Code (plain.Advance (v 0)))
-    ∷ (λ v. event.Code (plain.Frame (v 0) (v 1) (v 2) (v 4) (v 5)))
-    ∷ (λ v. event.Number (giving.StartFilter (v 0) (v 1) (v 2) (v 3) (v 5)))
-    ∷ (λ v. event.Code (plain.StopFilter (v 0) (v 1)))
-    ∷ (λ v. event.Number (giving.StartPeriodic (v 0) (v 1) (v 2) (v 3)))
-    ∷ (λ v. event.Code (plain.StopPeriodic (v 0) (v 1)))
-    ∷ (λ v. event.Write (v 0) (v 1) (v 2) (v 3))
-    ∷ (λ v. event.Read (v 0) (v 1))
-    ∷ (λ v. event.Take (v 0))
-    ∷ (λ v. event.Code (plain.Sent (v 0)))
-    ∷ (λ v. event.Code (plain.Clear (v 0) (v 1)))
-    ∷ (λ v. event.Number (giving.Get (v 0) (v 1)))
-    ∷ (λ v. event.Code (plain.Set (v 0) (v 1) (v 2)))
+    (λ n v. event.Code plain.Close)
+    ∷ (λ n v. event.Number (giving.Connect (v 0) (v 1) (v 2) (v 3)))
+    ∷ (λ n v. event.Code (plain.Disconnect (v 0)))
+    ∷ (λ n v. event.Code plain.Close)
+    ∷ (λ n v. event.Code (plain.Advance (v 0)))
+    ∷ (λ n v. event.Code (plain.Frame (v 0) (v 1) (v 2) (v 4) (v 5)))
+    ∷ started
+    ∷ (λ n v. event.Code (plain.StopFilter (v 0) (v 1)))
+    ∷ (λ n v. event.Number (giving.StartPeriodic (v 0) (v 1) (v 2) (v 3)))
+    ∷ (λ n v. event.Code (plain.StopPeriodic (v 0) (v 1)))
+    ∷ (λ n v. event.Write (v 0) (v 1) (v 2) (v 3))
+    ∷ (λ n v. event.Read (v 0) (v 1))
+    ∷ (λ n v. event.Take (v 0))
+    ∷ (λ n v. event.Code (plain.Sent (v 0)))
+    ∷ (λ n v. event.Code (plain.Clear (v 0) (v 1)))
+    ∷ (λ n v. event.Number (giving.Get (v 0) (v 1)))
+    ∷ (λ n v. event.Code (plain.Set (v 0) (v 1) (v 2)))
     ∷ []
 
 back : Option ((ℕ × List ℕ) × ℕ) → Found
 back none = found.Bad
-back (some x) = found.Good (getD cases (x .0 .0) (λ v. event.Code plain.Close) (λ i. getD (x .0 .1) i 0)) (x .1)
+back (some x) = found.Good (getD cases (x .0 .0) (λ n v. event.Code plain.Close) (length (x .0 .1)) (λ i. getD (x .0 .1) i 0)) (x .1)
 
 back-said : (r : Found) → back (saidBy r) ≡ r
 unfolding back
@@ -54,6 +61,7 @@ back-said (found.Good (event.Code (plain.Clear c k)) next) = refl
 back-said (found.Good (event.Code (plain.Set c p v)) next) = refl
 back-said (found.Good (event.Number (giving.Connect l p f r)) next) = refl
 back-said (found.Good (event.Number (giving.StartFilter c k m p e)) next) = refl
+back-said (found.Good (event.Number (giving.StartFlow c k m p f e)) next) = refl
 back-said (found.Good (event.Number (giving.StartPeriodic c f e i)) next) = refl
 back-said (found.Good (event.Number (giving.Get c p)) next) = refl
 back-said (found.Good (event.Write c n f e) next) = refl

@@ -6,7 +6,7 @@ use mathlib.Core.Option.{Option, none, some}
 use lib.Dec.{leb}
 use lib.ListN.{length, getD}
 use Rattle.codec.specs.Plain.{if_then_else_}
-use Rattle.machine.specs.Limits.{recordSize}
+use Rattle.recording_sizes.specs.Sizes.{onIso, recordOn}
 use Rattle.events.specs.Events.{Reads, _>>=_, done, bad, number, atMost64}
 use Rattle.events.specs.declared.Plain.{Plain}
 use Rattle.events.specs.declared.Plain.the-variants as plain
@@ -33,6 +33,7 @@ plainNumber (plain.Set channel parameter value) = 16
 abbrev pub givingNumber : Giving → ℕ
 givingNumber (giving.Connect line protocol flags rate) = 1
 givingNumber (giving.StartFilter channel type mask pattern end) = 6
+givingNumber (giving.StartFlow channel type mask pattern flow end) = 6
 givingNumber (giving.StartPeriodic channel from end interval) = 8
 givingNumber (giving.Get channel parameter) = 15
 
@@ -57,6 +58,7 @@ plainValues (plain.Set channel parameter value) = channel ∷ parameter ∷ valu
 abbrev pub givingValues : Giving → List ℕ
 givingValues (giving.Connect line protocol flags rate) = line ∷ protocol ∷ flags ∷ rate ∷ []
 givingValues (giving.StartFilter channel type mask pattern end) = channel ∷ type ∷ mask ∷ pattern ∷ pattern ∷ end ∷ []
+givingValues (giving.StartFlow channel type mask pattern flow end) = channel ∷ type ∷ mask ∷ pattern ∷ pattern ∷ flow ∷ flow ∷ end ∷ []
 givingValues (giving.StartPeriodic channel from end interval) = channel ∷ from ∷ end ∷ interval ∷ []
 givingValues (giving.Get channel parameter) = channel ∷ parameter ∷ []
 
@@ -92,6 +94,14 @@ unfoldable pub inOrder : List (Reads (List ℕ)) → Reads (List ℕ)
 inOrder [] = done []
 inOrder (p ∷ ps) = do v ← p; vs ← inOrder ps; done (v ++ vs)
 
+-- a channel, and then what depends on it
+unfoldable pub channelThen : (ℕ → List (Reads (List ℕ))) → Reads (List ℕ)
+channelThen parts = do channel ← number; vs ← inOrder (parts channel); done (channel ∷ vs)
+
+-- the record of the flow, on channels 5 to 8
+unfoldable pub flowOn : ℕ → List (Reads (List ℕ))
+flowOn channel = if onIso channel then raw (recordOn channel) ∷ [] else []
+
 -- the values of the events 0 to 16
 unfoldable pub values : List (Reads (List ℕ))
 values =
@@ -101,11 +111,11 @@ values =
     ∷ inOrder []
     ∷ inOrder (value ∷ [])
     ∷ inOrder (value ∷ value ∷ value ∷ pieces 1 ∷ [])
-    ∷ inOrder (value ∷ value ∷ raw recordSize ∷ raw recordSize ∷ [])
+    ∷ channelThen (λ channel. value ∷ raw (recordOn channel) ∷ raw (recordOn channel) ∷ flowOn channel)
     ∷ inOrder (value ∷ value ∷ [])
-    ∷ inOrder (value ∷ raw recordSize ∷ value ∷ [])
+    ∷ channelThen (λ channel. raw (recordOn channel) ∷ value ∷ [])
     ∷ inOrder (value ∷ value ∷ [])
-    ∷ inOrder (value ∷ pieces recordSize ∷ [])
+    ∷ channelThen (λ channel. pieces (recordOn channel) ∷ [])
     ∷ inOrder (value ∷ count ∷ [])
     ∷ inOrder (value ∷ [])
     ∷ inOrder (value ∷ [])
