@@ -11,18 +11,18 @@ use lib.Dec.{leb, ltb, eqb, eqb→eq}
 use lib.ListN.{length, getD, take, drop}
 use Rattle.codec.specs.Plain.{if_then_else_, zeros}
 use Rattle.codec.proofs.Tests.{true-T}
-use Rattle.machine.specs.Limits.{recordSize}
+use Rattle.recording_sizes.specs.Sizes.{onIso, recordOn}
 use Rattle.machine.specs.Cases.{_&_}
-use Rattle.machine.specs.Channel.{disconnect, startFilter, stopFilter, startPeriodic, stopPeriodic, write, read, takeNext, sent, clear, getParameter, setParameter}
+use Rattle.machine.specs.Channel.{disconnect, startFilter, startFlow, stopFilter, startPeriodic, stopPeriodic, write, read, takeNext, sent, clear, getParameter, setParameter}
 use Rattle.machine.specs.Device.{Event, connect, call, frame, advance, close}
 use Rattle.number.specs.Number as numbers
 use Rattle.number.specs.Number.{front, shortest}
 use Rattle.number.specs.Place.{answer, numberAt}
 use Rattle.edition.specs.Edition.{startOf}
-use Rattle.events.specs.Events.{Reads, _>>=_, done, bad, number, bytes, recordIn, atMost64, arguments, argumentsOf, readEvent}
+use Rattle.events.specs.Events.{Reads, _>>=_, done, bad, number, bytes, recordIn, startIn, atMost64, arguments, argumentsOf, readEvent}
 use Rattle.events.proofs.Reading.{number-ends, NoneUpTo, unknown}
 use Rattle.fault.specs.declared.Spot.{Spot}
-use Rattle.fault.specs.Fault.{spot, andThen, whyBad, numberThen, numberAfter, twoAfter, bytesFrom, bytesAfter, piecesFrom, piecesAfter, noMore, looks, argumentsAfter, editionFault, kindThen, eventFault, fault, nothing, met, faultFrom, faultIn}
+use Rattle.fault.specs.Fault.{spot, andThen, told, channelAt, whyBad, numberThen, numberAfter, twoAfter, bytesFrom, bytesAfter, recordAfter, piecesFrom, piecesAfter, noMore, flowAfter, looks, argumentsAfter, editionFault, kindThen, eventFault, fault, nothing, met, faultFrom, faultIn}
 use Rattle.fault.specs.Laws.{Agrees, EventsAgree, FaultsHaveReasons}
 use Rattle.fault.proofs.Parts.{stays}
 
@@ -47,6 +47,18 @@ number-keeps s x n = sym (stays (λ (at : ℕ). numberThen s at (λ v n. spot 0 
 bytes-keeps : (size : ℕ) → Keeps (bytesAfter size)
 unfolding bytesAfter
 bytes-keeps size s x n = sym (stays (bytesFrom size s) x n)
+
+record-keeps : (channel : ℕ) → Keeps (recordAfter channel)
+unfolding recordAfter
+record-keeps channel = bytes-keeps (recordOn channel)
+
+flow-keeps : (channel : ℕ) → Keeps (flowAfter channel)
+unfolding flowAfter
+flow-keeps channel = go (onIso channel)
+  where
+    go : (t : Bool) → Keeps (if t then recordAfter channel else noMore)
+    go true = record-keeps channel
+    go false = nothing-keeps
 
 pieces-keeps : (unit : ℕ) → Keeps (piecesAfter unit)
 unfolding piecesAfter
@@ -81,9 +93,9 @@ bytes-steps size = record { agrees = λ s at. go s at (leb (at + size) (length s
     go s at true = refl
     go s at false = λ e. omega arith
 
-record-steps : Steps recordIn (bytesAfter recordSize)
-unfolding recordIn
-record-steps = bytes-steps recordSize
+record-steps : (channel : ℕ) → Steps (recordIn channel) (recordAfter channel)
+unfolding recordIn recordAfter
+record-steps channel = bytes-steps (recordOn channel)
 
 -- ---- one part and then another
 
@@ -94,6 +106,15 @@ then-steps {A} {B} p q f g x k y = record { agrees = λ s at. go s at (p s at) (
     go : (s : List ℕ) (at : ℕ) (o : Option (A × ℕ)) → Agrees o (f s (spot 0 at)) → Agrees (bind o (λ r. q (r .0) s (r .1))) (g s (f s (spot 0 at)))
     go s at none n = subst (λ (z : Spot). z .reason ≡ 0 → ⊥) (sym (k s (f s (spot 0 at)) n)) n
     go s at (some r) e = rw e (y (r .0) .agrees s (r .1))
+
+-- a channel, and then what depends on it
+on-channel : {B : Type 0} (q : ℕ → Reads B) (g : ℕ → List ℕ → Spot → Spot) → ((c : ℕ) → Keeps (g c)) → ((c : ℕ) → Steps (q c) (g c)) → Steps (number >>= q) (λ s x. g (channelAt s x) s (numberAfter s x))
+unfolding number _>>=_ bind channelAt told numberAfter andThen numberThen numberAt answer
+on-channel {B} q g k y = record { agrees = λ s at. go s at (numbers.numberIn (drop at s)) }
+  where
+    go : (s : List ℕ) (at : ℕ) (o : Option numbers.Found) → Agrees (bind {A = ℕ × ℕ} (Option·map (λ f. (f .value, at + f .size)) o) (λ r. q (r .0) s (r .1))) (g (told (answer at o)) s (numberThen s at (λ v n. spot 0 n) (answer at o)))
+    go s at none = let n = why-not (front (drop at s)) in subst (λ (z : Spot). z .reason ≡ 0 → ⊥) (sym (k 0 s (spot (whyBad (front (drop at s))) at) n)) n
+    go s at (some f) = y (f .value) .agrees s (at + f .size)
 
 -- an n and so many pieces of raw bytes
 pieces-steps : {A : Type 0} (unit : ℕ) (size : ℕ → ℕ) (a : ℕ → List ℕ → A) → ((n : ℕ) → size n ≡ unit * n) → Steps (do n ← atMost64; b ← bytes (size n); done (a n b)) (piecesAfter unit)
@@ -135,8 +156,8 @@ count-steps {A} a = record { agrees = λ s at. go s at (numbers.numberIn (drop a
 more : {B : Type 0} (q : ℕ → Reads B) (g : List ℕ → Spot → Spot) → Keeps g → ((a : ℕ) → Steps (q a) g) → Steps (number >>= q) (λ s x. g s (numberAfter s x))
 more q g k y = then-steps number q numberAfter g number-steps k y
 
-more-record : {B : Type 0} (q : List ℕ → Reads B) (g : List ℕ → Spot → Spot) → Keeps g → ((a : List ℕ) → Steps (q a) g) → Steps (recordIn >>= q) (λ s x. g s (bytesAfter recordSize s x))
-more-record q g k y = then-steps recordIn q (bytesAfter recordSize) g record-steps k y
+more-record : {B : Type 0} (channel : ℕ) (q : List ℕ → Reads B) (g : List ℕ → Spot → Spot) → Keeps g → ((a : List ℕ) → Steps (q a) g) → Steps (recordIn channel >>= q) (λ s x. g s (recordAfter channel s x))
+more-record channel q g k y = then-steps (recordIn channel) q (recordAfter channel) g (record-steps channel) k y
 
 -- one look and then another keeps what was wrong
 both-keep : (f g : List ℕ → Spot → Spot) → Keeps f → Keeps g → Keeps (λ s x. g s (f s x))
@@ -158,9 +179,27 @@ three : {B : Type 0} (a : ℕ → ℕ → ℕ → B) → Steps (do x ← number;
 unfolding twoAfter
 three a = more (λ x. do y ← number; z ← number; done (a x y z)) twoAfter two-keeps (λ x. two-steps (a x))
 
--- two records keep what was wrong
-records-keep : Keeps (λ s x. bytesAfter recordSize s (bytesAfter recordSize s x))
-records-keep = both-keep (bytesAfter recordSize) (bytesAfter recordSize) (bytes-keeps recordSize) (bytes-keeps recordSize)
+-- a filter's records keep what was wrong: the flow, with the pattern before it, with the mask before both
+module _ (channel : ℕ) where
+  abbrev pattern-on : List ℕ → Spot → Spot
+  pattern-on s x = flowAfter channel s (recordAfter channel s x)
+
+  abbrev mask-on : List ℕ → Spot → Spot
+  mask-on s x = pattern-on s (recordAfter channel s x)
+
+  pattern-keeps : Keeps pattern-on
+  pattern-keeps = both-keep (recordAfter channel) (flowAfter channel) (record-keeps channel) (flow-keeps channel)
+
+  mask-keeps : Keeps mask-on
+  mask-keeps = both-keep (recordAfter channel) pattern-on (record-keeps channel) pattern-keeps
+
+  start-steps : (type : ℕ) (mask pattern : List ℕ) → Steps (startIn channel type mask pattern) (flowAfter channel)
+  unfolding startIn flowAfter noMore
+  start-steps type mask pattern = go (onIso channel)
+    where
+      go : (t : Bool) → Steps (if t then (recordIn channel >>= λ flow. done (call channel (startFlow type mask pattern flow))) else done (call channel (startFilter type mask pattern))) (if t then recordAfter channel else noMore)
+      go true = more-record channel _ noMore nothing-keeps (λ flow. done-steps (call channel (startFlow type mask pattern flow)))
+      go false = done-steps (call channel (startFilter type mask pattern))
 
 -- two tables agree, entry by entry
 abbrev Both : List (Reads Event) → List (List ℕ → Spot → Spot) → Type 0
@@ -185,13 +224,14 @@ all-agree =
     & done-steps close
     & one (λ t. advance t)
     & more _ _ (both-keep twoAfter (piecesAfter 1) two-keeps (pieces-keeps 1)) (λ l. more _ _ (both-keep numberAfter (piecesAfter 1) number-keeps (pieces-keeps 1)) (λ w. more _ (piecesAfter 1) (pieces-keeps 1) (λ i. pieces-steps 1 (λ n. n) (λ n b. frame l w i b) (λ n. omega arith))))
-    & more _ _ (both-keep numberAfter (λ s x. bytesAfter recordSize s (bytesAfter recordSize s x)) number-keeps records-keep) (λ c. more _ _ records-keep (λ t. more-record _ _ (bytes-keeps recordSize) (λ m. more-record _ noMore nothing-keeps (λ p. done-steps (call c (startFilter t m p))))))
+    & on-channel _ (λ c s x. mask-on c s (numberAfter s x)) (λ c. both-keep numberAfter (mask-on c) number-keeps (mask-keeps c))
+    (λ c. more _ (mask-on c) (mask-keeps c) (λ t. more-record c _ (pattern-on c) (pattern-keeps c) (λ m. more-record c _ (flowAfter c) (flow-keeps c) (λ p. start-steps c t m p))))
     & two-steps (λ c n. call c (stopFilter n))
-    & more _ _ (both-keep (bytesAfter recordSize) numberAfter (bytes-keeps recordSize) number-keeps) (λ c. more-record _ numberAfter number-keeps (λ m. one (λ i. call c (startPeriodic m i))))
+    & on-channel _ (λ c s x. numberAfter s (recordAfter c s x)) (λ c. both-keep (recordAfter c) numberAfter (record-keeps c) number-keeps) (λ c. more-record c _ numberAfter number-keeps (λ m. one (λ i. call c (startPeriodic m i))))
     & two-steps (λ c n. call c (stopPeriodic n))
-    & more _ (piecesAfter recordSize) (pieces-keeps recordSize) (λ c. pieces-steps recordSize (λ n. recordSize * n) (λ n b. call c (write n b)) (λ n. refl))
-    & more _ (piecesAfter 0) (pieces-keeps 0) (λ c. count-steps (λ n. call c (read n (zeros (recordSize * n)))))
-    & one (λ c. call c (takeNext (zeros recordSize)))
+    & on-channel _ (λ c. piecesAfter (recordOn c)) (λ c. pieces-keeps (recordOn c)) (λ c. pieces-steps (recordOn c) (λ n. recordOn c * n) (λ n b. call c (write n b)) (λ n. refl))
+    & more _ (piecesAfter 0) (pieces-keeps 0) (λ c. count-steps (λ n. call c (read n (zeros (recordOn c * n)))))
+    & one (λ c. call c (takeNext (zeros (recordOn c))))
     & one (λ c. call c sent)
     & two-steps (λ c k. call c (clear k))
     & two-steps (λ c p. call c (getParameter p))

@@ -7,12 +7,13 @@ use native.Mathlib.Omega.{arith}
 use borrow.Author.Tests.{leb-true, leb-false, le-leb, lt-leb, ne-eqb, eq-eqb, lt-ltb, le-ltb}
 use lib.Dec.{leb}
 use lib.ListN.{length, drop, getD, List·getD-eq-default}
+use Rattle.recording_sizes.specs.Sizes.{recordOn}
 use Rattle.number.specs.declared.Number.{Number}
 use Rattle.number.specs.declared.Number.the-variants.{Value, Bad}
 use Rattle.number.specs.Number.{front}
 use Rattle.number.specs.Place.{numberAt}
 use Rattle.fault.specs.declared.Spot.{Spot}
-use Rattle.fault.specs.Fault.{spot, andThen, whyBad, numberThen, bytesFrom, bytesAfter, piecesFrom, noMore, looks, argumentsAfter, editionFault, kindThen}
+use Rattle.fault.specs.Fault.{spot, andThen, whyBad, numberThen, numberAfter, twoAfter, bytesFrom, bytesAfter, piecesFrom, piecesAfter, channelAt, recordAfter, noMore, flowAfter, looks, argumentsAfter, editionFault, kindThen}
 use Rattle.events.proofs.Reading.{NoneUpTo}
 
 module _ (look : ℕ → Spot) (before : Spot) where
@@ -82,6 +83,20 @@ module _ (s : List ℕ) (at next : ℕ) where
 pub entry : (s : List ℕ) (before : Spot) (k : ℕ) (look : List ℕ → Spot → Spot) → getD looks k noMore ≡ look → {kind : ℕ} → kind ≡ k → look s before ≡ argumentsAfter kind s before
 unfolding argumentsAfter
 entry s before k look h {kind} e = ap (λ (f : List ℕ → Spot → Spot). f s before) (sym h) ∙ ap (λ (j : ℕ). getD looks j noMore s before) (sym e)
+
+-- and those whose records go by the channel
+module _ (s : List ℕ) (before : Spot) {channel size : ℕ} (named : channel ≡ channelAt s before) (sized : size ≡ recordOn channel) where
+  pub filter-entry : {kind : ℕ} → kind ≡ 6 → flowAfter channel s (bytesAfter size s (bytesAfter size s (twoAfter s before))) ≡ argumentsAfter kind s before
+  unfolding recordAfter looks
+  filter-entry e = rw (sized, named) (entry s before 6 (λ s b. flowAfter (channelAt s b) s (recordAfter (channelAt s b) s (recordAfter (channelAt s b) s (twoAfter s b)))) refl e)
+
+  pub periodic-entry : {kind : ℕ} → kind ≡ 8 → numberAfter s (bytesAfter size s (numberAfter s before)) ≡ argumentsAfter kind s before
+  unfolding recordAfter looks
+  periodic-entry e = rw (sized, named) (entry s before 8 (λ s b. numberAfter s (recordAfter (channelAt s b) s (numberAfter s b))) refl e)
+
+  pub write-entry : {kind : ℕ} → kind ≡ 10 → piecesAfter size s (numberAfter s before) ≡ argumentsAfter kind s before
+  unfolding looks
+  write-entry e = rw (sized, named) (entry s before 10 (λ s b. piecesAfter (recordOn (channelAt s b)) s (numberAfter s b)) refl e)
 
 -- a number that is no event's has no arguments
 pub no-arguments : (s : List ℕ) (before : Spot) (kind : ℕ) → NoneUpTo 16 kind → before ≡ argumentsAfter kind s before

@@ -5,8 +5,7 @@ use mathlib.Core.Option.{Option, none, some}
 use lib.Dec.{leb, ltb, eqb}
 use lib.ListN.{length, getD, drop}
 use Rattle.codec.specs.Plain.{if_then_else_}
-use Rattle.recording_sizes.specs.Sizes.{longest, most}
-use Rattle.machine.specs.Limits.{recordSize}
+use Rattle.recording_sizes.specs.Sizes.{longest, most, onIso, recordOn}
 use Rattle.machine.specs.Device.{Event}
 use Rattle.number.specs.declared.Number.{Number}
 use Rattle.number.specs.declared.Number.the-variants.{Value, Bad}
@@ -86,9 +85,26 @@ piecesAfter unit recording = andThen (λ at. numberThen recording at (piecesFrom
 
 -- ---- an event
 
+-- the number that is told of an event; 0 where there is none
+unfoldable pub told : Number → ℕ
+told (Value value next) = value
+told Bad = 0
+
+-- the channel that an event names before anything else
+unfoldable pub channelAt : List ℕ → Spot → ℕ
+channelAt recording before = told (numberAt recording (before .at))
+
+-- a record of a channel
+unfoldable pub recordAfter : ℕ → List ℕ → Spot → Spot
+recordAfter channel = bytesAfter (recordOn channel)
+
 -- nothing more
 unfoldable pub noMore : List ℕ → Spot → Spot
 noMore recording before = before
+
+-- the record of the flow, on channels 5 to 8
+unfoldable pub flowAfter : ℕ → List ℕ → Spot → Spot
+flowAfter channel = if onIso channel then recordAfter channel else noMore
 
 -- the arguments of the events 0 to 16
 unfoldable pub looks : List (List ℕ → Spot → Spot)
@@ -99,11 +115,11 @@ looks =
     ∷ noMore
     ∷ numberAfter
     ∷ (λ s b. piecesAfter 1 s (numberAfter s (twoAfter s b)))
-    ∷ (λ s b. bytesAfter recordSize s (bytesAfter recordSize s (twoAfter s b)))
+    ∷ (λ s b. let c = channelAt s b in flowAfter c s (recordAfter c s (recordAfter c s (twoAfter s b))))
     ∷ twoAfter
-    ∷ (λ s b. numberAfter s (bytesAfter recordSize s (numberAfter s b)))
+    ∷ (λ s b. numberAfter s (recordAfter (channelAt s b) s (numberAfter s b)))
     ∷ twoAfter
-    ∷ (λ s b. piecesAfter recordSize s (numberAfter s b))
+    ∷ (λ s b. piecesAfter (recordOn (channelAt s b)) s (numberAfter s b))
     ∷ (λ s b. piecesAfter 0 s (numberAfter s b))
     ∷ numberAfter
     ∷ numberAfter

@@ -1,9 +1,10 @@
 // Where and why a recording is bad: its first bad event, and the first part of that event which cannot be read.
 ghost use mathlib.Core.Path.{_≡_};
 ghost use Prim.Native.Nat.{_≤_};
-ghost use Rattle.machine.specs.Limits.{recordSize};
-ghost use Rattle.fault.specs.Fault.{whyBad, numberAfter, bytesAfter, piecesAfter, argumentsAfter, editionFault, eventFault, faultIn};
+ghost use Rattle.iso.specs.Limits.{isoRecordSize};
+ghost use Rattle.fault.specs.Fault.{told, whyBad, numberAfter, bytesAfter, piecesAfter, flowAfter, argumentsAfter, editionFault, eventFault, faultIn};
 ghost use Rattle.number.specs.Number.{front};
+ghost use Rattle.number.specs.Place.{numberAt};
 ghost use lib.ListN.{drop};
 use events::Found;
 use number::Number;
@@ -67,6 +68,16 @@ fn why(recording: &[u8], at: usize) -> u32
     CUT_SHORT
 }
 
+// The number at a place, 0 where there is none.
+pub fn number_at(recording: &[u8], at: usize) -> u32
+    ensures { λ r. ⌜ r ≡ told (numberAt (now (recording .entry)) at) ⌝ }
+{
+    let Number::Value { value, next: _ } = reader::read_number(recording, at) else {
+        return 0;
+    };
+    value
+}
+
 // Looks at a number.
 fn number(recording: &[u8], before: Spot) -> Spot
     ensures { λ r. ⌜ r ≡ numberAfter (now (recording .entry)) before ⌝ }
@@ -113,7 +124,7 @@ fn bytes(recording: &[u8], before: Spot, size: usize) -> Spot
 
 // Looks at an n of at most 64, and at n pieces of raw bytes.
 fn pieces(recording: &[u8], before: Spot, unit: usize) -> Spot
-    requires { ⌜ unit ≤ recordSize ⌝ }
+    requires { ⌜ unit ≤ isoRecordSize ⌝ }
     ensures { λ r. ⌜ r ≡ piecesAfter unit (now (recording .entry)) before ⌝ }
 {
     if before.reason != GOOD {
@@ -137,10 +148,22 @@ fn pieces(recording: &[u8], before: Spot, unit: usize) -> Spot
     bytes(recording, from, unit * (value as usize))
 }
 
-// Looks at the arguments of the event of a number, 1 to 16. Most begin with one number or two.
+// Looks at the record of the flow, which a start of a filter has on channels 5 to 8.
+fn flow(recording: &[u8], before: Spot, channel: u32) -> Spot
+    ensures { λ r. ⌜ r ≡ flowAfter channel (now (recording .entry)) before ⌝ }
+{
+    if !recording_sizes::on_iso(channel) {
+        return before;
+    }
+    bytes(recording, before, recording_sizes::record_on(channel))
+}
+
+// Looks at the arguments of the event of a number, 1 to 16. Most begin with one number or two, and those with records with the channel.
 fn arguments(recording: &[u8], from: Spot, kind: u32) -> Spot
     ensures { λ r. ⌜ r ≡ argumentsAfter kind (now (recording .entry)) from ⌝ }
 {
+    let channel = number_at(recording, from.at);
+    let size = recording_sizes::record_on(channel);
     let one = number(recording, from);
     let two = number(recording, one);
     match kind {
@@ -149,15 +172,15 @@ fn arguments(recording: &[u8], from: Spot, kind: u32) -> Spot
         3 => from,
         4 => one,
         5 => pieces(recording, number(recording, two), 1),
-        6 => bytes(
+        6 => flow(
             recording,
-            bytes(recording, two, recording_sizes::RECORD),
-            recording_sizes::RECORD,
+            bytes(recording, bytes(recording, two, size), size),
+            channel,
         ),
         7 => two,
-        8 => number(recording, bytes(recording, one, recording_sizes::RECORD)),
+        8 => number(recording, bytes(recording, one, size)),
         9 => two,
-        10 => pieces(recording, one, recording_sizes::RECORD),
+        10 => pieces(recording, one, size),
         11 => pieces(recording, one, 0),
         12 => one,
         13 => one,

@@ -1,25 +1,11 @@
 // What is wrong with a recording, in words on a descriptor. Bytes are counted from 0, events from 1.
-ghost use mathlib.Core.Path.{_≡_};
-ghost use Rattle.number.specs.Place.{numberAt};
-ghost use Rattle.fault_words.specs.Told.{told};
 use fault::Spot;
-use number::Number;
 
 // Words, a number and words again.
 fn about(fd: i32, before: &[u8], n: u64, after: &[u8]) {
     io::write_all(fd, before);
     io::print_decimal(fd, n);
     io::write_all(fd, after);
-}
-
-// The number at a place, 0 where there is none.
-fn number_at(recording: &[u8], at: usize) -> u32
-    ensures { λ r. ⌜ r ≡ told (numberAt (now (recording .entry)) at) ⌝ }
-{
-    let Number::Value { value, next: _ } = reader::read_number(recording, at) else {
-        return 0;
-    };
-    value
 }
 
 // Why a number cannot be read.
@@ -47,7 +33,7 @@ pub fn reason(fd: i32, recording: &[u8], spot: Spot) {
         fault::UNKNOWN => about(
             fd,
             b": there is no event of number ",
-            number_at(recording, at) as u64,
+            fault::number_at(recording, at) as u64,
             b"\n",
         ),
         fault::MISPLACED => about(
@@ -59,7 +45,7 @@ pub fn reason(fd: i32, recording: &[u8], spot: Spot) {
         fault::OTHER_EDITION => about(
             fd,
             b": there is no edition ",
-            number_at(recording, at) as u64,
+            fault::number_at(recording, at) as u64,
             b", only 2\n",
         ),
         _ => number(fd, why, at),

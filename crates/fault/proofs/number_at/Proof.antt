@@ -1,9 +1,9 @@
--- `fault_words::number_at` meets its contract. Assumes nothing.
+-- `fault::number_at` meets its contract. Assumes nothing.
 use mathlib.Core.Path.{sym, ap, _∙_}
 use borrow.Author.Needs.{needs}
-use Rattle.fault_words.specs.Told.{told}
-use Rattle.fault_words.proofs.number_at.Statement.{statement}
-use Rattle.fault_words.proofs.number_at.Tie as tie
+use Rattle.fault.specs.Fault.{told}
+use Rattle.fault.proofs.number_at.Statement.{statement}
+use Rattle.fault.proofs.number_at.Tie as tie
 
 returns : tie.Need-returns
 unfolding told
