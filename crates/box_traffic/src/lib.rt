@@ -4,6 +4,7 @@ ghost use mathlib.Core.List.{List, []};
 ghost use Prim.Native.Nat.{ℕ};
 ghost use lib.Dec.{T};
 ghost use Rattle.machine.specs.Channel.{write as writes};
+ghost use Rattle.machine.specs.Channel.{read as reads};
 ghost use Rattle.machine.specs.Device.{call};
 ghost use Rattle.layout.specs.Promise.{gives};
 ghost use Rattle.memory.specs.Memory.{valid};
@@ -29,6 +30,28 @@ pub fn write(mem: &mut [u8], channel: u32, n: u32, buffer: &[u8]) -> Answer
         return answer;
     }
     let answer = iso_writing::write(&mut mem[a..a + iso_places::REGION], n, buffer);
+    iso_settings::note(mem, a, answer.code);
+    answer
+}
+
+// Moves the oldest received records to a buffer.
+pub fn read(mem: &mut [u8], channel: u32, n: u32, buffer: &mut [u8]) -> Answer
+    requires { ⌜ T (valid (now mem)) ⌝ }
+    ensures { λ a. ⌜ ((rates : List ℕ) → gives (a .code) (a .value) (now (buffer .exit)) (now (mem .exit)) ≡ outcome rates (now (mem .entry)) (call channel (reads n (now (buffer .entry))))) ⌝ }
+{
+    let a = seats::region_of(mem, channel);
+    if a == 0 {
+        return Answer {
+            code: codes::ERR_INVALID_CHANNEL_ID,
+            value: 0,
+        };
+    }
+    if a < ISO_REGIONS {
+        let answer = reading::read_in(&mut mem[a..a + places::REGION], n, buffer);
+        noting::note(mem, a, answer.code);
+        return answer;
+    }
+    let answer = iso_reading::read_in(&mut mem[a..a + iso_places::REGION], n, buffer);
     iso_settings::note(mem, a, answer.code);
     answer
 }

@@ -7,7 +7,8 @@ ghost use Rattle.machine.specs.Channel.{clear as clears};
 ghost use Rattle.machine.specs.Channel.{getParameter, setParameter, lastError};
 ghost use Rattle.machine.specs.Device.{call};
 ghost use Rattle.machine.specs.Device.{connect as connects};
-ghost use Rattle.layout.specs.Promise.{gives, outcome};
+ghost use Rattle.layout.specs.Promise.{gives};
+ghost use Rattle.memory.specs.Promise.{outcome};
 use can::RATES;
 use codes::Answer;
 
@@ -22,13 +23,13 @@ pub fn connect_with(
 ) -> Answer
     ensures { λ a. ⌜ gives (a .code) (a .value) [] (now (mem .exit)) ≡ outcome (now (rates .entry)) (now (mem .entry)) (connects line protocol flags rate) ⌝ }
 {
-    if !validity::valid(mem) {
+    if !box_validity::valid(mem) {
         return Answer {
             code: codes::ERR_INVALID_DEVICE_ID,
             value: 0,
         };
     }
-    owned_channels::connect(mem, rates, line, protocol, flags, rate)
+    box_connecting::connect(mem, rates, line, protocol, flags, rate)
 }
 
 // Opens the channel of a line and gives its number.
@@ -43,23 +44,23 @@ pub fn connect(mem: &mut [u8], line: u32, protocol: u32, flags: u32, rate: u32) 
 pub fn get(mem: &mut [u8], channel: u32, parameter: u32) -> Answer
     ensures { λ a. ⌜ gives (a .code) (a .value) [] (now (mem .exit)) ≡ outcome twoRates (now (mem .entry)) (call channel (getParameter parameter)) ⌝ }
 {
-    if !validity::valid(mem) {
+    if !box_validity::valid(mem) {
         return Answer {
             code: codes::ERR_INVALID_DEVICE_ID,
             value: 0,
         };
     }
-    owned_channels::get(mem, channel, parameter)
+    box_channels::get(mem, channel, parameter)
 }
 
 // A parameter's new value; a rate is one of the rates lent: for programs that replay a recording of any edition.
 pub fn set_with(mem: &mut [u8], rates: &[u32], channel: u32, parameter: u32, value: u32) -> u32
     ensures { λ c. ⌜ gives c 0 [] (now (mem .exit)) ≡ outcome (now (rates .entry)) (now (mem .entry)) (call channel (setParameter parameter value)) ⌝ }
 {
-    if !validity::valid(mem) {
+    if !box_validity::valid(mem) {
         return codes::ERR_INVALID_DEVICE_ID;
     }
-    owned_channels::set(mem, rates, channel, parameter, value)
+    box_channels::set(mem, rates, channel, parameter, value)
 }
 
 // A parameter's new value.
@@ -74,31 +75,31 @@ pub fn set(mem: &mut [u8], channel: u32, parameter: u32, value: u32) -> u32
 pub fn disconnect(mem: &mut [u8], channel: u32) -> u32
     ensures { λ c. ⌜ gives c 0 [] (now (mem .exit)) ≡ outcome twoRates (now (mem .entry)) (call channel disconnects) ⌝ }
 {
-    if !validity::valid(mem) {
+    if !box_validity::valid(mem) {
         return codes::ERR_INVALID_DEVICE_ID;
     }
-    owned_channels::disconnect(mem, channel)
+    box_channels::disconnect(mem, channel)
 }
 
 // Empties one kind of what a channel holds.
 pub fn clear(mem: &mut [u8], channel: u32, kind: u32) -> u32
     ensures { λ c. ⌜ gives c 0 [] (now (mem .exit)) ≡ outcome twoRates (now (mem .entry)) (call channel (clears kind)) ⌝ }
 {
-    if !validity::valid(mem) {
+    if !box_validity::valid(mem) {
         return codes::ERR_INVALID_DEVICE_ID;
     }
-    owned_channels::clear(mem, channel, kind)
+    box_channels::clear(mem, channel, kind)
 }
 
 // What went wrong last on a channel; asking changes nothing.
 pub fn last_error(mem: &[u8], channel: u32) -> Answer
     ensures { λ a. ⌜ gives (a .code) (a .value) [] (now (mem .entry)) ≡ outcome twoRates (now (mem .entry)) (call channel lastError) ⌝ }
 {
-    if !validity::valid(mem) {
+    if !box_validity::valid(mem) {
         return Answer {
             code: codes::ERR_INVALID_DEVICE_ID,
             value: 0,
         };
     }
-    owned_channels::last_error(mem, channel)
+    box_channels::last_error(mem, channel)
 }

@@ -31,7 +31,7 @@ use Rattle.iso_flights.specs.Lain.{Lain, disowned}
 
 -- ---- zeros are the bytes of nothing
 
-none-zeros : (flags : ℕ) → slot (talkCell flags) .put none ≡ zeros talkSize
+pub none-zeros : (flags : ℕ) → slot (talkCell flags) .put none ≡ zeros talkSize
 unfolding slot talkCell such via both mark byte word32 transferCode transferPlain payload508 many
 none-zeros flags = refl
 

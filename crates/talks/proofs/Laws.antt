@@ -41,7 +41,7 @@ behind : (s : Bool) (x y : ℕ) → (s ≡ true → x ≡ y) → (if not s then 
 behind true x y e = e refl
 behind false x y e = refl
 
-each : (a b c : Bool) → (a && b && c) ≡ true → (a ≡ true) × ((b ≡ true) × (c ≡ true))
+pub each : (a b c : Bool) → (a && b && c) ≡ true → (a ≡ true) × ((b ≡ true) × (c ≡ true))
 each true true true e = (refl, (refl, refl))
 each true true false e = absurd (true-T false e)
 each true false c e = absurd (true-T false e)
@@ -166,11 +166,11 @@ module _ (r : List ℕ) (f : IsoOpened r) where
       let same : wordAt flagsAt r ≡ wordAt 0 (config .put (o .config)) = omega (arith, byte-of p 0 (omega arith), byte-of p 1 (omega arith), byte-of p 2 (omega arith), byte-of p 3 (omega arith)) in
       same ∙ word-back (o .config .flags) small
 
-  two-places : length (o .talks) ≡ mostTalks
+  pub two-places : length (readyOf r .talks) ≡ mostTalks
   unfolding talksCode
   two-places = many-count mostTalks (slot (talkCell (fli o))) (o .talks) (lies r f .talks-ok)
 
-  taken-at : (k : ℕ) → k < mostTalks → not (eqb (getD r (talksAt + k * talkSize) 0) 0) ≡ taken (getD (o .talks) k none)
+  pub taken-at : (k : ℕ) → k < mostTalks → not (eqb (getD r (talksAt + k * talkSize) 0) 0) ≡ taken (getD (readyOf r .talks) k none)
   taken-at k h =
       let z : talksAt + k * talkSize ≡ talksAt + k * talkSize + 0 = omega arith in
       ap (λ (j : ℕ). not (eqb j 0)) (ap (λ (i : ℕ). getD r i 0) z ∙ byte-of (talk-part o r (lies r f) k h) 0 (omega arith)) ∙ first-byte (fli o) (getD (o .talks) k none)
