@@ -9,13 +9,11 @@ use lib.ListN.{length, getD, set, take, drop, length-drop}
 use lib.Dec.{T, eqb, eqb→eq}
 use Rattle.machine.specs.Codes.{twoRates}
 use Rattle.machine.specs.Limits.{mostPairs}
-use Rattle.machine.specs.Channel.{Answer, says, Outcome, Pairs, flat, getParameter, setParameter, getList, setList, onCall, onOpen, noted}
-use Rattle.machine.specs.Device.{Device, call}
-use Rattle.machine.proofs.Parameters.{get-few}
-use Rattle.machine.proofs.Pairs.{step-open}
-use Rattle.layout.specs.Memory.{load}
-use Rattle.layout.specs.Promise.{Result, gives, outcome}
-use Rattle.layout.proofs.Lists.{Ready, told as in-steps, set-ends as set-none-left, set-goes, set-stops, get-ends as get-none-left, get-goes, get-stops}
+use Rattle.machine.specs.Channel.{Pairs, flat, getParameter, setParameter, getList, setList}
+use Rattle.machine.specs.Device.{call}
+use Rattle.layout.specs.Promise.{Result, gives}
+use Rattle.memory.specs.Promise.{outcome}
+use Rattle.memory.proofs.Lists.{Ready, set-ends as set-none-left, set-goes, set-stops, get-ends as get-none-left, get-goes, get-stops, no-value}
 use Rattle.device_lists.specs.declared.Pair.{Pair}
 use Rattle.device_lists.specs.Lists.{told, listed, valued, blank}
 use Rattle.device_lists.proofs.Refused.{known}
@@ -114,17 +112,8 @@ module _ (k : ℕ) (m : List ℕ) (r : Ready m k) where
   get-done [] = ap (behind []) (get-none-left twoRates known m k r)
   get-done (p ∷ l) = ap (after p) (get-done l)
 
-  -- a list's answer is its code alone
-  no-value : (ps : Pairs) → length ps ≤ mostPairs → outcome twoRates m (call k (getList ps)) .value ≡ 0
-  unfolding onCall onOpen says noted
-  no-value ps few =
-      subst (λ (j : ℕ). outcome twoRates m (call j (getList ps)) .value ≡ 0) (sym (r .number))
-      (ap (λ (x : Result). x .value) (in-steps twoRates known m (r .good) (call (r .line + 1) (getList ps)))
-      ∙ ap (λ (s : Device × Answer). s .1 .value) (step-open twoRates (load m) (r .line) (r .channel) (r .there) (getList ps))
-      ∙ ap (λ (x : Outcome). x .1 .value) (get-few twoRates (r .channel) ps few))
-
   pub get-begins : (l : List Pair) → length l ≤ mostPairs → getFrom k m 0 l ≡ outcome twoRates m (call k (getList (listed l)))
   unfolding flat
   get-begins l few =
       let x : Result = outcome twoRates m (call k (getList (listed l))) in
-      λ j. gives (x .code) (sym (no-value (listed l) (omega (arith, listed-length l))) j) (x .buffer) (x .memory)
+      λ j. gives (x .code) (sym (no-value twoRates known m k r (listed l) (omega (arith, listed-length l))) j) (x .buffer) (x .memory)

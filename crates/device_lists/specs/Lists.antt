@@ -8,8 +8,9 @@ use Rattle.machine.specs.Codes.{twoRates}
 use Rattle.machine.specs.Limits.{mostPairs}
 use Rattle.machine.specs.Channel.{Pairs, flat, getList, setList}
 use Rattle.machine.specs.Device.{call}
-use Rattle.layout.specs.Memory.{valid}
-use Rattle.layout.specs.Promise.{gives, outcome, Found}
+use Rattle.layout.specs.Promise.{gives}
+use Rattle.memory.specs.Memory.{valid}
+use Rattle.memory.specs.Promise.{outcome, Placed}
 use Rattle.device_lists.specs.declared.Pair.{Pair}
 
 -- a lent pair's two numbers, and a lent list's
@@ -33,7 +34,8 @@ pub record Begun (m : List ℕ) (k n c : ℕ) (m′ : List ℕ) : Type 0 where
   pub get-refused : (c ≡ 0 → ⊥) → (ps : Pairs) → length ps ≡ n → gives c 0 (flat ps) m′ ≡ outcome twoRates m (call k (getList ps))
   pub good : c ≡ 0 → T (valid m)
   pub base : ℕ
-  pub found : c ≡ 0 → Found m k base
+  pub is-open : c ≡ 0 → base ≡ 0 → ⊥
+  pub placed : c ≡ 0 → Placed m k base
   pub few : c ≡ 0 → n ≤ mostPairs
   pub stays : c ≡ 0 → m′ ≡ m
 

@@ -6,9 +6,11 @@ ghost use lib.Dec.{T};
 ghost use Rattle.machine.specs.Codes.{twoRates};
 ghost use Rattle.machine.specs.Channel.{flat, getParameter, setParameter, getList, setList};
 ghost use Rattle.machine.specs.Device.{call};
-ghost use Rattle.layout.specs.Memory.{valid};
-ghost use Rattle.layout.specs.Promise.{gives, outcome};
+ghost use Rattle.layout.specs.Promise.{gives};
+ghost use Rattle.memory.specs.Memory.{valid};
+ghost use Rattle.memory.specs.Promise.{outcome};
 ghost use Rattle.device_lists.specs.Lists.{listed, Begun};
+use box_places::ISO_REGIONS;
 use can::RATES;
 use codes::Answer;
 
@@ -26,18 +28,22 @@ const MOST: usize = 16;
 fn begin(mem: &mut [u8], channel: u32, n: usize) -> u32
     ensures { λ c. ⌜ Begun (now (mem .entry)) channel n c (now (mem .exit)) ⌝ }
 {
-    if !validity::valid(mem) {
+    if !box_validity::valid(mem) {
         return codes::ERR_INVALID_DEVICE_ID;
     }
-    let a = finding::region_of(mem, channel);
+    let a = seats::region_of(mem, channel);
     if a == 0 {
         return codes::ERR_INVALID_CHANNEL_ID;
     }
-    if n > MOST {
+    if n <= MOST {
+        return codes::STATUS_NOERROR;
+    }
+    if a < ISO_REGIONS {
         noting::note(mem, a, codes::ERR_NULL_PARAMETER);
         return codes::ERR_NULL_PARAMETER;
     }
-    codes::STATUS_NOERROR
+    iso_settings::note(mem, a, codes::ERR_NULL_PARAMETER);
+    codes::ERR_NULL_PARAMETER
 }
 
 // Sets one parameter, on a memory known to be valid.
@@ -46,7 +52,7 @@ fn set_one(mem: &mut [u8], channel: u32, parameter: u32, value: u32) -> u32
     ensures { λ c. ⌜ gives c 0 [] (now (mem .exit)) ≡ outcome twoRates (now (mem .entry)) (call channel (setParameter parameter value)) ⌝ }
 {
     let rates = RATES;
-    owned_channels::set(mem, &rates, channel, parameter, value)
+    box_channels::set(mem, &rates, channel, parameter, value)
 }
 
 // Gets one parameter, on a memory known to be valid.
@@ -54,7 +60,7 @@ fn get_one(mem: &mut [u8], channel: u32, parameter: u32) -> Answer
     requires { ⌜ T (valid (now mem)) ⌝ }
     ensures { λ a. ⌜ gives (a .code) (a .value) [] (now (mem .exit)) ≡ outcome twoRates (now (mem .entry)) (call channel (getParameter parameter)) ⌝ }
 {
-    owned_channels::get(mem, channel, parameter)
+    box_channels::get(mem, channel, parameter)
 }
 
 // Sets the pairs in order, up to the first refused one.

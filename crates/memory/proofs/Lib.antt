@@ -6,4 +6,5 @@ pub mod Entry
 pub mod Seats
 pub mod Isolation
 pub mod Unique
+pub mod Lists
 pub mod Demands

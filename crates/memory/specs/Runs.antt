@@ -8,7 +8,7 @@ use lib.ListN.{getD, set, take, drop}
 use lib.Dec.{eqb, ltb}
 use Rattle.codec.specs.Plain.{if_then_else_, member}
 use Rattle.machine.specs.Limits.{lines}
-use Rattle.machine.specs.Channel.{Answer}
+use Rattle.machine.specs.Channel.{Answer, Pairs, flat, getParameter, setParameter, getList, setList}
 use Rattle.machine.specs.Device.{Event, connect, call, frame, advance, close, lentBy}
 use Rattle.layout.specs.Sizes.{numberSize, regionSize, lastAt}
 use Rattle.layout.specs.Promise.{answerOf}
@@ -89,6 +89,28 @@ remembered close code m = m
 pub record NothingElseChanged (rates m : List ℕ) (e : Event) : Type 0 where
   pub memory : outcome rates m e .memory ≡ remembered e (outcome rates m e .code) m
   pub buffer : outcome rates m e .buffer ≡ lentBy e
+
+-- A LIST OF PARAMETERS THAT A PAIR ENDED (02, P2, amends the demand for lists only): in front of that pair stand accepted ones. A set gives and leaves
+-- what those alone do, and then the set of the refused pair alone
+pub record SetListEnded (rates m : List ℕ) (k : ℕ) (ps : Pairs) : Type 0 where
+  pub before : Pairs
+  pub refused : ℕ × ℕ
+  pub behind : Pairs
+  pub is : ps ≡ before ++ refused ∷ behind
+  pub accepted : outcome rates m (call k (setList before)) .code ≡ 0x00
+  pub leaves : outcome rates m (call k (setList ps)) ≡ outcome rates (outcome rates m (call k (setList before)) .memory) (call k (setParameter (refused .0) (refused .1)))
+
+-- a get leaves what those alone leave, and then the get of the refused pair's parameter, whose code it gives; their values stand in the list, and
+-- the refused pair and all behind it stay
+pub record GetListEnded (rates m : List ℕ) (k : ℕ) (ps : Pairs) : Type 0 where
+  pub before : Pairs
+  pub refused : ℕ × ℕ
+  pub behind : Pairs
+  pub is : ps ≡ before ++ refused ∷ behind
+  pub accepted : outcome rates m (call k (getList before)) .code ≡ 0x00
+  pub memory : outcome rates m (call k (getList ps)) .memory ≡ outcome rates (outcome rates m (call k (getList before)) .memory) (call k (getParameter (refused .0))) .memory
+  pub code : outcome rates m (call k (getList ps)) .code ≡ outcome rates (outcome rates m (call k (getList before)) .memory) (call k (getParameter (refused .0))) .code
+  pub list : outcome rates m (call k (getList ps)) .buffer ≡ outcome rates m (call k (getList before)) .buffer ++ flat (refused ∷ behind)
 
 -- ---- DEMAND 2
 

@@ -1,16 +1,20 @@
 -- DEMANDS 1 AND 3 FROM POWER-ON, in the demands' own words: whatever has happened to the box since, and for any set of rates. No premise on the
 -- device is left. Channels go by their place: place i is channel number i + 1. Assumes nothing.
-use Prim.Native.Nat.{ℕ, _<_}
+use Prim.Native.Nat.{ℕ, _≤_, _<_}
 use mathlib.Core.Path.{_≡_, refl}
 use mathlib.Core.Logic.{_≢_}
 use mathlib.Core.Bool.{true, false}
-use mathlib.Core.List.{List}
-use Rattle.machine.specs.Channel.{Call}
+use mathlib.Core.List.{List, _∷_}
+use lib.ListN.{length}
+use Rattle.codec.specs.Plain.{member}
+use Rattle.machine.specs.Limits.{mostPairs}
+use Rattle.machine.specs.Channel.{Call, Pairs, flat, getParameter, setParameter, getList, setList, says}
 use Rattle.machine.specs.Device.{Event, call, lentBy}
 use Rattle.whole.specs.Device.{channels, powerOn, anyAt, step, run, answers}
-use Rattle.whole.specs.Demands.{EightChannels, refusal, remembers, concerns, strike, answersOf, Projected, Exchanged, SameToEach, Arranged, Ignored, Names, byCall}
+use Rattle.whole.specs.Demands.{EightChannels, pairCodes, refusal, SetEnded, GetEnded, remembers, concerns, strike, answersOf, Projected, Exchanged, SameToEach, Arranged, Ignored, Names, byCall}
 use Rattle.whole.proofs.Dispatch.{run-channels-kept}
 use Rattle.whole.proofs.Refusals.{refused-leaves}
+use Rattle.whole.proofs.Lists.{set-ended, get-ended, set-at-once, get-at-once}
 use Rattle.whole.proofs.Isolation.{projection-from, ignored, arranged, different-exchange}
 
 eight-at-first : EightChannels powerOn
@@ -30,6 +34,24 @@ module _ (rates : List ℕ) where
       → (step rates (run rates powerOn es) e .0 ≡ remembers e (step rates (run rates powerOn es) e .1 .code) (run rates powerOn es))
       × (step rates (run rates powerOn es) e .1 .buffer ≡ lentBy e)
   refused-changes-nothing-else es e = refused-leaves rates (run rates powerOn es) e (eight es)
+
+  -- AMENDED FOR LISTS ONLY: a list of parameters that one of its pairs ended leaves what its accepted pairs leave, and then what the refused one
+  -- leaves alone
+  pub set-list-ended : (es : List Event) (k : ℕ) (ps : Pairs) → member (step rates (run rates powerOn es) (call k (setList ps)) .1 .code) pairCodes ≡ true → SetEnded rates (run rates powerOn es) k ps
+  set-list-ended es k ps = set-ended rates (run rates powerOn es) (eight es) k ps
+
+  pub get-list-ended : (es : List Event) (k : ℕ) (ps : Pairs) → member (step rates (run rates powerOn es) (call k (getList ps)) .1 .code) pairCodes ≡ true → GetEnded rates (run rates powerOn es) k ps
+  get-list-ended es k ps = get-ended rates (run rates powerOn es) (eight es) k ps
+
+  -- a list whose first pair is refused is the refusal of a single call
+  pub set-list-at-once : (es : List Event) (k : ℕ) (p : ℕ × ℕ) (ps : Pairs) → length (p ∷ ps) ≤ mostPairs → step rates (run rates powerOn es) (call k (setParameter (p .0) (p .1))) .1 .code ≢ 0x00
+      → step rates (run rates powerOn es) (call k (setList (p ∷ ps))) ≡ step rates (run rates powerOn es) (call k (setParameter (p .0) (p .1)))
+  set-list-at-once es k p ps h = set-at-once rates (run rates powerOn es) (eight es) k p ps h
+
+  pub get-list-at-once : (es : List Event) (k : ℕ) (p : ℕ × ℕ) (ps : Pairs) → length (p ∷ ps) ≤ mostPairs → step rates (run rates powerOn es) (call k (getParameter (p .0))) .1 .code ≢ 0x00
+      → step rates (run rates powerOn es) (call k (getList (p ∷ ps)))
+      ≡ (step rates (run rates powerOn es) (call k (getParameter (p .0))) .0, says (step rates (run rates powerOn es) (call k (getParameter (p .0))) .1 .code) 0 (flat (p ∷ ps)))
+  get-list-at-once es k p ps h = get-at-once rates (run rates powerOn es) (eight es) k p ps h
 
   -- ---- demand 3
 

@@ -57,8 +57,9 @@ use Rattle.machine.specs.Codes.{twoRates}
 use Rattle.machine.specs.Limits.{mostPairs}
 use Rattle.machine.specs.Channel.{flat, getParameter, getList}
 use Rattle.machine.specs.Device.{call}
-use Rattle.layout.specs.Promise.{Result, gives, outcome}
-use Rattle.layout.proofs.Lists.{Ready, found-ready}
+use Rattle.layout.specs.Promise.{Result, gives}
+use Rattle.memory.specs.Promise.{outcome}
+use Rattle.memory.proofs.Lists.{Ready, placed-ready}
 use Rattle.device_lists.specs.declared.Pair.{Pair}
 use Rattle.device_lists.specs.Lists.{listed, blank, valued, Begun}
 use Rattle.walks.proofs.Again.{LentAgain, lends-again, comes-back}
@@ -388,7 +389,7 @@ module _ {M : Type 1} (𝓤 : URA M) (H : Heap 𝓤) (A : Atoms 𝓤) (W : Given
     begun : (r : ℕ) (s : List ℕ) → Begun s₀ ch n r s → Holds (not (not (eqb r 0))) → Goes n 0 xs
     begun r s e h =
         let z : r ≡ 0 = is-code r h in
-        let ready : Ready s₀ ch = found-ready s₀ (e .good z) ch (e .base) (e .found z) in
+        let ready : Ready s₀ ch = placed-ready s₀ (e .good z) ch (e .base) (e .placed z) (e .is-open z) in
         record { count = omega arith; few = e .few z; same = refl; ready = ready; right = get-begins ch s₀ ready xs (e .few z) }
 
     -- what the body starts with: the arguments lie in their locals, and the borrow is closed

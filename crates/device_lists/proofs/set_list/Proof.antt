@@ -52,8 +52,9 @@ use Rattle.machine.specs.Codes.{twoRates}
 use Rattle.machine.specs.Limits.{mostPairs}
 use Rattle.machine.specs.Channel.{setParameter, setList}
 use Rattle.machine.specs.Device.{call}
-use Rattle.layout.specs.Promise.{Result, gives, outcome}
-use Rattle.layout.proofs.Lists.{Ready, found-ready}
+use Rattle.layout.specs.Promise.{Result, gives}
+use Rattle.memory.specs.Promise.{outcome}
+use Rattle.memory.proofs.Lists.{Ready, placed-ready}
 use Rattle.device_lists.specs.declared.Pair.{Pair}
 use Rattle.device_lists.specs.Lists.{listed, blank, Begun}
 use Rattle.walks.proofs.Again.{LentAgain, lends-again, comes-back}
@@ -367,7 +368,7 @@ module _ {M : Type 1} (𝓤 : URA M) (H : Heap 𝓤) (A : Atoms 𝓤) (W : Given
           count = omega arith;
           few = e .few z;
           same = l;
-          ready = subst (λ (x : List ℕ). Ready x ch) (sym stay) (found-ready s₀ (e .good z) ch (e .base) (e .found z));
+          ready = subst (λ (x : List ℕ). Ready x ch) (sym stay) (placed-ready s₀ (e .good z) ch (e .base) (e .placed z) (e .is-open z));
           right = ap (λ (x : List ℕ). setFrom ch xs 0 x) stay;
         }
 
