@@ -4,7 +4,7 @@ use mathlib.Core.List.{List, [], _++_}
 use lib.Dec.{eqb}
 use lib.ListN.{take}
 use Rattle.codec.specs.Plain.{if_then_else_}
-use Rattle.machine.specs.Limits.{recordSize}
+use Rattle.recording_sizes.specs.Sizes.{recordOn}
 use Rattle.number.specs.Number.{bytesOf}
 use Rattle.machine.specs.Channel.{Call, disconnect, startFilter, startFlow, stopFilter, startPeriodic, stopPeriodic, write, read, takeNext, sent, clear, getParameter, setParameter, lastError, getList, setList, Answer}
 use Rattle.machine.specs.Device.{Event, connect, call, frame, advance, close}
@@ -13,30 +13,30 @@ use Rattle.machine.specs.Device.{Event, connect, call, frame, advance, close}
 unfoldable pub onDone : ℕ → List ℕ → List ℕ
 onDone code more = if eqb code 0x00 then more else []
 
--- behind the code of a call: read and write always give the count, and read its records; on 0x00 a start gives the number, take the record,
--- get the value. No event asks for the last code, and none is a list of parameters
-unfoldable pub afterCall : Call → Answer → List ℕ
-afterCall disconnect a = []
-afterCall (startFilter t m p) a = onDone (a .code) (bytesOf (a .value))
-afterCall (startFlow t m p f) a = onDone (a .code) (bytesOf (a .value))
-afterCall (stopFilter n) a = []
-afterCall (startPeriodic m i) a = onDone (a .code) (bytesOf (a .value))
-afterCall (stopPeriodic n) a = []
-afterCall (write n b) a = bytesOf (a .value)
-afterCall (read n b) a = bytesOf (a .value) ++ take (recordSize * a .value) (a .buffer)
-afterCall (takeNext b) a = onDone (a .code) (take recordSize (a .buffer))
-afterCall sent a = []
-afterCall (clear k) a = []
-afterCall (getParameter p) a = onDone (a .code) (bytesOf (a .value))
-afterCall (setParameter p v) a = []
-afterCall lastError a = []
-afterCall (getList ps) a = []
-afterCall (setList ps) a = []
+-- behind the code of a call on a channel: read and write always give the count, and read its records; on 0x00 a start gives the number, take the
+-- record, get the value. No event asks for the last code, and none is a list of parameters
+unfoldable pub afterCall : ℕ → Call → Answer → List ℕ
+afterCall channel disconnect a = []
+afterCall channel (startFilter t m p) a = onDone (a .code) (bytesOf (a .value))
+afterCall channel (startFlow t m p f) a = onDone (a .code) (bytesOf (a .value))
+afterCall channel (stopFilter n) a = []
+afterCall channel (startPeriodic m i) a = onDone (a .code) (bytesOf (a .value))
+afterCall channel (stopPeriodic n) a = []
+afterCall channel (write n b) a = bytesOf (a .value)
+afterCall channel (read n b) a = bytesOf (a .value) ++ take (recordOn channel * a .value) (a .buffer)
+afterCall channel (takeNext b) a = onDone (a .code) (take (recordOn channel) (a .buffer))
+afterCall channel sent a = []
+afterCall channel (clear k) a = []
+afterCall channel (getParameter p) a = onDone (a .code) (bytesOf (a .value))
+afterCall channel (setParameter p v) a = []
+afterCall channel lastError a = []
+afterCall channel (getList ps) a = []
+afterCall channel (setList ps) a = []
 
 -- behind the code of an event: on 0x00 connect gives the channel
 unfoldable pub afterCode : Event → Answer → List ℕ
 afterCode (connect l p f r) a = onDone (a .code) (bytesOf (a .value))
-afterCode (call k x) a = afterCall x a
+afterCode (call k x) a = afterCall k x a
 afterCode (frame l w n b) a = []
 afterCode (advance t) a = []
 afterCode close a = []
