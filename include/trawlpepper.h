@@ -1,4 +1,4 @@
-/* Trawlpepper: the core of a four-line pass-thru box (SAE J2534-1, raw CAN), proved.
+/* Trawlpepper: the core of a four-line pass-thru box (SAE J2534-1, raw CAN and ISO 15765), proved.
  *
  * All state is one memory of TRAWL_MEMORY bytes that you lend to every call; docs/LAYOUT.md names each byte of it. Calls keep nothing else,
  * allocate nothing and never block. A call's answer is a code (below) and, for some, a number: a channel, a count, a value. The number comes
@@ -29,7 +29,9 @@
  *     if (trawl_read(box, sizeof box, channel, 1, record, sizeof record, &count) == TRAWL_STATUS_NOERROR)
  *         printf("%u bytes from 0x%04X\n", (unsigned)trawl_record_size(record), (unsigned)trawl_record_identifier(record));
  *
- * A whole program is c/examples/car.c; docs/INTEGRATING.md is the guide for those who build a box.
+ * Each line has a raw CAN channel, 1 to 4, and an ISO 15765 channel, 5 to 8, which may be open beside it; records of the latter have
+ * TRAWL_ISO_RECORD bytes. Whole programs are c/examples/car.c and c/examples/iso_message.c; docs/INTEGRATING.md is the guide for those who build a
+ * box.
  */
 #ifndef TRAWLPEPPER_H
 #define TRAWLPEPPER_H
@@ -43,15 +45,17 @@ extern "C" {
 
 /* The version of this header and of the archive built from the same sources. The first number changes when a program or a kept memory that was
  * good may be so no more, the second when something is added, the third with everything else. TRAWL_VERSION is for comparing. */
-#define TRAWL_VERSION_MAJOR 4
+#define TRAWL_VERSION_MAJOR 5
 #define TRAWL_VERSION_MINOR 0
 #define TRAWL_VERSION_PATCH 0
 #define TRAWL_VERSION (TRAWL_VERSION_MAJOR * 10000 + TRAWL_VERSION_MINOR * 100 + TRAWL_VERSION_PATCH)
 
-/* The size of the device memory, of a message record and of a telegram record, and the room for the bytes of a telegram; the most pairs of a
- * list. */
-#define TRAWL_MEMORY 10000u
+/* The size of the device memory; of a message record of channels 1 to 4 and of one of channels 5 to 8, and the most payload bytes of the latter; of
+ * a telegram record, and the room for the bytes of a telegram; the most pairs of a list. */
+#define TRAWL_MEMORY 42256u
 #define TRAWL_RECORD 36u
+#define TRAWL_ISO_RECORD 536u
+#define TRAWL_ISO_PAYLOAD 508u
 #define TRAWL_TELEGRAM 32u
 #define TRAWL_TELEGRAM_ROOM 8u
 #define TRAWL_PAIRS 16u
@@ -62,9 +66,9 @@ extern "C" {
 
 /* Codes, by J2534-1's names. */
 #define TRAWL_STATUS_NOERROR 0x00u
-#define TRAWL_ERR_NOT_SUPPORTED 0x01u         /* unknown configuration parameter */
-#define TRAWL_ERR_INVALID_CHANNEL_ID 0x02u    /* channel number not 1 to 4, or not open */
-#define TRAWL_ERR_INVALID_PROTOCOL_ID 0x03u   /* connect: protocol is not 5 */
+#define TRAWL_ERR_NOT_SUPPORTED 0x01u         /* unknown configuration parameter; a periodic on channels 5 to 8 */
+#define TRAWL_ERR_INVALID_CHANNEL_ID 0x02u    /* channel number not 1 to 8, or not open */
+#define TRAWL_ERR_INVALID_PROTOCOL_ID 0x03u   /* connect: protocol is not 5 or 6 */
 #define TRAWL_ERR_NULL_PARAMETER 0x04u        /* lent buffer too short; a list of more than 16 pairs */
 #define TRAWL_ERR_INVALID_IOCTL_VALUE 0x05u   /* bad value for a known parameter */
 #define TRAWL_ERR_INVALID_FLAGS 0x06u         /* connect: a flag other than 0x100, 0x800 */
@@ -72,28 +76,35 @@ extern "C" {
 #define TRAWL_ERR_TIMEOUT 0x09u               /* read: some records, fewer than asked (a result) */
 #define TRAWL_ERR_INVALID_MSG 0x0Au           /* bad message, frame or telegram */
 #define TRAWL_ERR_INVALID_TIME_INTERVAL 0x0Bu /* interval not 5 to 65,535 ms; advance over 1,000,000 us */
-#define TRAWL_ERR_EXCEEDED_LIMIT 0x0Cu        /* ten filters or ten periodics exist */
+#define TRAWL_ERR_EXCEEDED_LIMIT 0x0Cu        /* ten filters or ten periodics exist; on channels 5 to 8 two filters */
 #define TRAWL_ERR_INVALID_MSG_ID 0x0Du        /* no periodic of that number on this channel */
 #define TRAWL_ERR_INVALID_IOCTL_ID 0x0Fu      /* clear of an unknown kind */
 #define TRAWL_ERR_BUFFER_EMPTY 0x10u          /* read: no record; take: no frame */
 #define TRAWL_ERR_BUFFER_FULL 0x11u           /* write: no room */
 #define TRAWL_ERR_BUFFER_OVERFLOW 0x12u       /* records were lost since the last report (a result) */
 #define TRAWL_ERR_PIN_INVALID 0x13u           /* line over 3 */
-#define TRAWL_ERR_CHANNEL_IN_USE 0x14u        /* the line's channel is already open */
-#define TRAWL_ERR_MSG_PROTOCOL_ID 0x15u       /* protocol field of a message is not 5 */
-#define TRAWL_ERR_INVALID_FILTER_ID 0x16u     /* filter type not 1 or 2; no filter of that number on this channel */
+#define TRAWL_ERR_CHANNEL_IN_USE 0x14u        /* that channel of the line is already open */
+#define TRAWL_ERR_MSG_PROTOCOL_ID 0x15u       /* protocol field of a record is not 5, on channels 5 to 8 not 6 */
+#define TRAWL_ERR_INVALID_FILTER_ID 0x16u     /* filter type not 1 or 2, on channels 5 to 8 not 3; no filter of that number */
+#define TRAWL_ERR_NO_FLOW_CONTROL 0x17u       /* write on channels 5 to 8: more than 7 payload bytes, and no filter for them */
+#define TRAWL_ERR_NOT_UNIQUE 0x18u            /* filter on channels 5 to 8: an identifier of the other filter */
 #define TRAWL_ERR_INVALID_BAUDRATE 0x19u      /* connect: rate not 250,000 or 500,000 */
 #define TRAWL_ERR_INVALID_DEVICE_ID 0x1Au     /* device memory of the wrong size, or not valid */
 
-/* Protocol, connection flags, filter types, parameters; RxStatus and TxFlags bits of a record. */
+/* Protocols, connection flags, filter types, parameters; RxStatus bits of a record (TX_MSG_TYPE of an echo, START_OF_MESSAGE of RxStart, both
+ * TX_INDICATION and TX_MSG_TYPE of TxDone). CAN_29BIT_ID is a bit of RxStatus and TxFlags too. */
 #define TRAWL_CAN 5u
+#define TRAWL_ISO15765 6u
 #define TRAWL_CAN_29BIT_ID 0x100u
 #define TRAWL_CAN_ID_BOTH 0x800u
 #define TRAWL_PASS_FILTER 1u
 #define TRAWL_BLOCK_FILTER 2u
+#define TRAWL_FLOW_CONTROL_FILTER 3u
 #define TRAWL_DATA_RATE 1u
 #define TRAWL_LOOPBACK 3u
 #define TRAWL_TX_MSG_TYPE 0x1u
+#define TRAWL_START_OF_MESSAGE 0x2u
+#define TRAWL_TX_INDICATION 0x8u
 
 /* What a clear empties: the kinds that trawl_clear takes. J2534-1's own numbers for the same are those of four IOCTLs, and trawl_clear takes
  * them for unknown kinds (0x0F):
@@ -102,7 +113,7 @@ extern "C" {
 #define TRAWL_CLEAR_WRITTEN 1u   /* written records that are not in flight */
 #define TRAWL_CLEAR_RECEIVED 2u  /* the receive queue and the lost mark */
 #define TRAWL_CLEAR_PERIODICS 3u /* all periodics; their numbers are free */
-#define TRAWL_CLEAR_FILTERS 4u   /* all filters; nothing more is let in */
+#define TRAWL_CLEAR_FILTERS 4u   /* all filters; nothing more is let in, and on channels 5 to 8 all transfers end */
 
 /* J2534-1's IOCTL numbers: for trawl_clear_kind, not for trawl_clear. */
 #define TRAWL_CLEAR_TX_BUFFER 0x07u
@@ -112,7 +123,7 @@ extern "C" {
 
 /* ---- a message record ----
  *
- * 36 bytes, each number lowest byte first, but the identifier highest byte first:
+ * 36 bytes on channels 1 to 4, each number lowest byte first, but the identifier highest byte first:
  *
  *   bytes      field         in a record that you lend        as take gives it     as read gives it
  *   0 to 3     protocol      5, else 0x15                     5                    5
@@ -128,8 +139,19 @@ extern "C" {
  * bits. Other bits of TxFlags are ignored in a message; in mask and pattern of a filter both TxFlags must be the same number, and the identifier
  * may be any. A connection with CAN_ID_BOTH takes both widths; otherwise it takes only wide ones with CAN_29BIT_ID, and only narrow ones without.
  *
- * The functions below read and write such records byte by byte, on any processor, with no struct laid over them. Those that read want 36
- * bytes. */
+ * On channels 5 to 8 a record has 536 bytes, with the same fields, and 508 bytes for the data. What differs:
+ *
+ *   bytes      field         in a record that you lend        as take gives it     as read gives it
+ *   0 to 3     protocol      6, else 0x15                     6                    6
+ *   4 to 7     RxStatus      ignored                          0                    0x100 if wide, plus 1 echo, 2 RxStart, 9 TxDone
+ *   16 to 19   data size     5 to 512; 4 in a filter          5 to 12              5 to 512; 4 of RxStart and TxDone
+ *   20 to 23   extra index   ignored                          the data size        the data size; 0 of RxStart and TxDone
+ *
+ * What you write and read there are whole messages, without the bytes by which ISO 15765-2 cuts them into frames; what take gives is one frame,
+ * with those bytes, so its data are what goes on the line as it is.
+ *
+ * The functions below read and write records byte by byte, on any processor, with no struct laid over them. Those that read want 36 bytes, but
+ * trawl_iso_record_data_size a record of 536, and read records of either size. */
 
 static inline uint32_t trawl_load32(const uint8_t *at) {
     return (uint32_t)at[0] | (uint32_t)at[1] << 8 | (uint32_t)at[2] << 16 | (uint32_t)at[3] << 24;
@@ -142,31 +164,57 @@ static inline void trawl_store32(uint8_t *at, uint32_t number) {
     at[3] = (uint8_t)(number >> 24 & 0xFFu);
 }
 
-/* A record with these TxFlags and n bytes, the identifier's four among them, over all 36 bytes: the mask or pattern of a filter of any size. Of
- * more than 12 bytes none beyond the twelfth is read, and the record is one that every call refuses with 0x0A. */
-static inline void trawl_record_bytes(uint8_t *record, uint32_t tx_flags, const uint8_t *bytes, size_t n) {
-    uint32_t size = n > 12u ? 0xFFFFFFFFu : (uint32_t)n;
-    size_t i;
-    trawl_store32(record, TRAWL_CAN);
+/* The first 24 bytes of a record with this protocol, these TxFlags and n bytes of at most `most`: for the functions below. */
+static inline void trawl_record_numbers(uint8_t *record, uint32_t protocol, uint32_t tx_flags, size_t n, size_t most) {
+    uint32_t size = n > most ? 0xFFFFFFFFu : (uint32_t)n;
+    trawl_store32(record, protocol);
     trawl_store32(record + 4, 0u);
     trawl_store32(record + 8, tx_flags);
     trawl_store32(record + 12, 0u);
     trawl_store32(record + 16, size);
     trawl_store32(record + 20, size);
-    for (i = 0u; i < 12u; i++) record[24u + i] = i < n ? bytes[i] : (uint8_t)0u;
+}
+
+/* Bytes into a place of `most`, zeros behind them: for the functions below. */
+static inline void trawl_record_put(uint8_t *place, const uint8_t *bytes, size_t n, size_t most) {
+    size_t i;
+    for (i = 0u; i < most; i++) place[i] = i < n ? bytes[i] : (uint8_t)0u;
+}
+
+static inline void trawl_record_put_identifier(uint8_t *place, uint32_t identifier) {
+    place[0] = (uint8_t)(identifier >> 24 & 0xFFu);
+    place[1] = (uint8_t)(identifier >> 16 & 0xFFu);
+    place[2] = (uint8_t)(identifier >> 8 & 0xFFu);
+    place[3] = (uint8_t)(identifier & 0xFFu);
+}
+
+/* A record with these TxFlags and n bytes, the identifier's four among them, over all 36 bytes: the mask or pattern of a filter of any size. Of
+ * more than 12 bytes none beyond the twelfth is read, and the record is one that every call refuses with 0x0A. */
+static inline void trawl_record_bytes(uint8_t *record, uint32_t tx_flags, const uint8_t *bytes, size_t n) {
+    trawl_record_numbers(record, TRAWL_CAN, tx_flags, n, 12u);
+    trawl_record_put(record + 24, bytes, n, 12u);
 }
 
 /* A record of a frame with n data bytes (0 to 8), over all 36 bytes: a message to send, or mask or pattern of a filter on the identifier and the
  * first n data bytes. wide is 0 or not. Of more than 8 data bytes none beyond the eighth is read, and every call refuses the record with 0x0A. */
 static inline void trawl_record_make(uint8_t *record, uint32_t wide, uint32_t identifier, const uint8_t *data, size_t n) {
-    uint8_t bytes[12];
-    size_t i;
-    bytes[0] = (uint8_t)(identifier >> 24 & 0xFFu);
-    bytes[1] = (uint8_t)(identifier >> 16 & 0xFFu);
-    bytes[2] = (uint8_t)(identifier >> 8 & 0xFFu);
-    bytes[3] = (uint8_t)(identifier & 0xFFu);
-    for (i = 0u; i < 8u; i++) bytes[4u + i] = i < n ? data[i] : (uint8_t)0u;
-    trawl_record_bytes(record, wide ? TRAWL_CAN_29BIT_ID : 0u, bytes, n > 8u ? (size_t)13u : n + 4u);
+    trawl_record_numbers(record, TRAWL_CAN, wide ? TRAWL_CAN_29BIT_ID : 0u, n > 8u ? (size_t)13u : n + 4u, 12u);
+    trawl_record_put_identifier(record + 24, identifier);
+    trawl_record_put(record + 28, data, n, 8u);
+}
+
+/* The same for channels 5 to 8, over all 536 bytes: of n bytes, the identifier's four among them, at most 512; and of n payload bytes, 1 to 508, for
+ * a message, or 0 for mask, pattern or flow of a filter (the mask has the identifier 0xFFFFFFFF). Of more the rest isn't read, and every call
+ * refuses the record with 0x0A. */
+static inline void trawl_iso_record_bytes(uint8_t *record, uint32_t tx_flags, const uint8_t *bytes, size_t n) {
+    trawl_record_numbers(record, TRAWL_ISO15765, tx_flags, n, 512u);
+    trawl_record_put(record + 24, bytes, n, 512u);
+}
+
+static inline void trawl_iso_record_make(uint8_t *record, uint32_t wide, uint32_t identifier, const uint8_t *payload, size_t n) {
+    trawl_record_numbers(record, TRAWL_ISO15765, wide ? TRAWL_CAN_29BIT_ID : 0u, n > 508u ? (size_t)513u : n + 4u, 512u);
+    trawl_record_put_identifier(record + 24, identifier);
+    trawl_record_put(record + 28, payload, n, 508u);
 }
 
 static inline uint32_t trawl_record_protocol(const uint8_t *record) { return trawl_load32(record); }
@@ -180,25 +228,39 @@ static inline uint32_t trawl_record_identifier(const uint8_t *record) {
     return (uint32_t)record[24] << 24 | (uint32_t)record[25] << 16 | (uint32_t)record[26] << 8 | (uint32_t)record[27];
 }
 
-/* The data bytes behind the identifier, and how many there are: 0 to 8, whatever the record's size says. */
+/* The data bytes behind the identifier, and how many there are: 0 to 8, whatever the record's size says; in a record that channels 5 to 8 read,
+ * 0 to 508. */
 static inline const uint8_t *trawl_record_data(const uint8_t *record) { return record + 28; }
 static inline size_t trawl_record_data_size(const uint8_t *record) {
     uint32_t size = trawl_record_size(record);
     return size < 4u ? 0u : size > 12u ? 8u : (size_t)(size - 4u);
 }
+static inline size_t trawl_iso_record_data_size(const uint8_t *record) {
+    uint32_t size = trawl_record_size(record);
+    return size < 4u ? 0u : size > 512u ? 508u : (size_t)(size - 4u);
+}
 
-/* 1 if a record that read or take gave is wide, else 0; 1 if one that read gave is the echo of a frame that the box sent, else 0. */
+/* 1 if a record that read or take gave is wide, else 0. Of one that read gave: 1 if it is the echo of what the box sent, else 0; the same of RxStart
+ * (a message begins to come) and TxDone (a message is sent), which channels 5 to 8 give. */
 static inline uint32_t trawl_record_wide(const uint8_t *record) {
     return ((trawl_record_rx_status(record) | trawl_record_tx_flags(record)) & TRAWL_CAN_29BIT_ID) != 0u ? 1u : 0u;
 }
-static inline uint32_t trawl_record_echo(const uint8_t *record) { return trawl_record_rx_status(record) & TRAWL_TX_MSG_TYPE; }
+static inline uint32_t trawl_record_rx_start(const uint8_t *record) {
+    return (trawl_record_rx_status(record) & TRAWL_START_OF_MESSAGE) != 0u ? 1u : 0u;
+}
+static inline uint32_t trawl_record_tx_done(const uint8_t *record) {
+    return (trawl_record_rx_status(record) & TRAWL_TX_INDICATION) != 0u ? 1u : 0u;
+}
+static inline uint32_t trawl_record_echo(const uint8_t *record) {
+    return (trawl_record_rx_status(record) & (TRAWL_TX_MSG_TYPE | TRAWL_TX_INDICATION)) == TRAWL_TX_MSG_TYPE ? 1u : 0u;
+}
 
 /* The kind for trawl_clear of one of J2534-1's four IOCTL numbers for clear; 0, which trawl_clear refuses with 0x0F, of any other number. */
 static inline uint32_t trawl_clear_kind(uint32_t ioctl) {
     return ioctl < TRAWL_CLEAR_TX_BUFFER || ioctl > TRAWL_CLEAR_MSG_FILTERS ? 0u : ioctl - 6u;
 }
 
-/* ---- filters ----
+/* ---- filters of channels 1 to 4 ----
  *
  *   - A channel just connected has no filter, and no filter lets nothing in. A frame is queued if a pass filter matches and no block filter
  *   does, in whatever order they were started. Block filters alone let nothing in either. Echoes go past all filters.
@@ -209,29 +271,55 @@ static inline uint32_t trawl_clear_kind(uint32_t ioctl) {
  *   connection that takes both widths it takes two filters to let all in.
  *   - A channel has at most ten, pass and block together. Starting and stopping filters leaves what is queued. */
 
+/* ---- ISO 15765 channels, 5 to 8 ----
+ *
+ *   - A filter is a conversation with one partner: its pattern is the identifier that the partner sends with, its flow the one that the box sends
+ *   with. A channel has at most two. Both identifiers of both filters differ, but a filter's own two may be the same: then it is for single frames.
+ *   - Messages of up to 7 payload bytes travel in one frame. Longer ones, up to 508, are cut: a first frame with the length, then the partner's
+ *   flow frame, then consecutive frames numbered 1 to 15, 0, 1 and so on. The box makes and understands these frames, with normal addressing; what
+ *   it sends is unpadded, what it receives may be padded. The first frame of a still longer message is answered by flow status overflow and gives
+ *   no record.
+ *   - Received: RxStart when the first frame of a long message comes, the message when its last frame comes, with the clock of these frames. A new
+ *   first frame or a single frame ends an unfinished reception; so does a wrong number, and so does a second without the next frame. Then there is
+ *   RxStart and no message.
+ *   - Sent: messages in the order written, one at a time on a channel, through take and sent frame by frame, at the pace of the partner's flow
+ *   frames (block size, STmin). TxDone when the last frame is sent, then with loopback on the message as its echo. A second without the flow frame
+ *   that is waited for, or flow status overflow, drops the message: then there is no TxDone.
+ *   - A conversation does one thing at a time: while the box sends on it, only flow frames of the partner count; while it receives, a long message
+ *   for it waits, and those behind it. Flow frames of the box go before everything else.
+ *   - A long message needs a filter whose flow is its identifier, when it is written (0x17) and when it is its turn; a short one needs none.
+ *   - A channel holds 8 records for reading and 4 written messages, beside the one under way. It has no periodics. Its rate, loopback, records and
+ *   last code are its own. It doesn't hear what the raw channel of its line sends, nor the other way round; frames that come are for both. */
+
 /* ---- the driver's loop ----
  *
  * You write the functions of the controller: whether it received a frame (and which), whether it has sent the frame it was handed since you
- * last asked, whether it is idle, and the handing over. This may run in a main loop as often as you like:
+ * last asked, whether it is idle, and the handing over. turn has a number for each line, zeros at first: the channel whose frame the controller
+ * has; the line's two channels take turns. record has TRAWL_ISO_RECORD bytes. This may run in a main loop as often as you like:
 
-    uint32_t line, wide, id, us = microseconds_since_last_time();
+    uint32_t line, k, wide, id, us = microseconds_since_last_time();
     for (; us > 1000000u; us -= 1000000u) trawl_advance(box, sizeof box, 1000000u);
     trawl_advance(box, sizeof box, us);
     for (line = 0u; line < 4u; line++) {
+        if (controller_has_sent(line)) trawl_sent(box, sizeof box, turn[line]);
         while (controller_received(line, &wide, &id, data, &n)) trawl_frame(box, sizeof box, line, wide, id, data, n);
-        if (controller_has_sent(line)) trawl_sent(box, sizeof box, line + 1u);
-        if (controller_idle(line) && trawl_take(box, sizeof box, line + 1u, record, sizeof record) == TRAWL_STATUS_NOERROR)
-            controller_send(line, trawl_record_wide(record), trawl_record_identifier(record), trawl_record_data(record),
-                            trawl_record_data_size(record));
+        for (k = 0u; k < 2u && controller_idle(line); k++) {
+            turn[line] = turn[line] == line + 1u ? line + 5u : line + 1u;
+            if (trawl_take(box, sizeof box, turn[line], record, sizeof record) == TRAWL_STATUS_NOERROR)
+                controller_send(line, trawl_record_wide(record), trawl_record_identifier(record), trawl_record_data(record),
+                                trawl_record_data_size(record));
+        }
     }
 
- * A frame that was taken is in flight: one a channel, and it stays so until it is sent, or the channel is disconnected. While it is, take gives
- * the same 36 bytes again, and nothing behind it moves. So:
+ * Sent comes before the frames: a partner's flow frame counts only after the sent of the frame that it answers. A frame that was taken is in
+ * flight: one a channel, and it stays so until it is sent, or the channel is disconnected. While it is, take gives the same bytes again, and
+ * nothing behind it moves. So:
  *   - Where the controller FAILS TO SEND (arbitration lost, no acknowledgement, bus off), call nothing. The next take gives the frame again, and
  *   handing it over again is the retry. J2534-1 wants that retries go on until they succeed or the application stops them.
  *   - To GIVE IT UP, empty the flight: with loopback off call trawl_sent. With loopback on that would queue an echo of a frame that was never on
  *   the line: set LOOPBACK to 0, call trawl_sent, set it to 1 again. Clear and stopping a periodic leave the flight, so where J2534-1's
- *   CLEAR_TX_BUFFER is to stop retries, do this after trawl_clear, and take the frame back from the controller first.
+ *   CLEAR_TX_BUFFER is to stop retries, do this after trawl_clear, and take the frame back from the controller first. On channels 5 to 8 a sent
+ *   goes on with the message, or tells that it is done: stop the filter first, or, of a message in a single frame, disconnect.
  *   - On disconnect and close take back what the controller still holds: the flight is gone, and a trawl_sent for it would answer 0x07, or, where
  *   a frame was taken since, speak of that one.
  *   - With loopback on the box makes the echo, at the sent. Don't hand your own frames to trawl_frame as well. */
@@ -251,10 +339,12 @@ uint32_t trawl_valid(const uint8_t *memory, size_t memory_length);
  * Codes: 0x1A for another size. */
 uint32_t trawl_power_on(uint8_t *memory, size_t memory_length);
 
-/* Opens the raw CAN channel of a line (0 to 3) and gives its number, the line plus 1. The new channel is empty: no filters, no periodics, nothing
- * queued, loopback 0, no last code. Refused with 0x14 it leaves that code with the channel, which is open; refused with another it leaves nothing.
- * Codes: 0x1A; 0x03 protocol is not 5; 0x06 a flag bit other than 0x100 and 0x800; 0x19 rate is not 250000 or 500000 (125000 is retired);
- * 0x13 line over 3; 0x14 the channel is open. */
+/* Opens a channel of a line (0 to 3) and gives its number: with protocol 5 the raw CAN channel, the line plus 1; with protocol 6 the ISO 15765
+ * channel, the line plus 5. Each may be open without the other, and has its own flags and rate. The new channel is empty: no filters, no periodics,
+ * nothing queued, loopback 0, no last code. Refused with 0x14 it leaves that code with the channel, which is open; refused with another it leaves
+ * nothing.
+ * Codes: 0x1A; 0x03 protocol is not 5 or 6; 0x06 a flag bit other than 0x100 and 0x800; 0x19 rate is not 250000 or 500000 (125000 is retired);
+ * 0x13 line over 3; 0x14 that channel is open. */
 uint32_t trawl_connect(uint8_t *memory, size_t memory_length, uint32_t line, uint32_t protocol, uint32_t flags, uint32_t rate,
                        uint32_t *channel);
 
@@ -262,39 +352,54 @@ uint32_t trawl_connect(uint8_t *memory, size_t memory_length, uint32_t line, uin
  * Codes: 0x1A. */
 uint32_t trawl_close(uint8_t *memory, size_t memory_length);
 
-/* Time goes on by 0 to 1,000,000 microseconds, for the clock (modulo 2^32) and every periodic: one that reaches one or more of its due times is
- * pending, once. No other call moves time.
+/* Time goes on by 0 to 1,000,000 microseconds, for the clock (modulo 2^32), every periodic and every ISO 15765 transfer: a periodic that reaches one
+ * or more of its due times is pending, once; a transfer that has waited a second for its partner's frame is dropped, and a pause between
+ * consecutive frames gets shorter. No other call moves time.
  * Codes: 0x1A; 0x0B over 1,000,000, and no time passes. */
 uint32_t trawl_advance(uint8_t *memory, size_t memory_length, uint32_t microseconds);
 
-/* A frame came in on a line: wide is 0 (11 bits) or 1 (29 bits), data has 0 to 8 bytes. It is queued as a record with the clock as its timestamp
- * if the line's channel is open, takes the width, and its filters let it in; else it is dropped, and 0x00 is the answer all the same. Where 32
- * records wait already it is dropped and the lost mark is set, again with 0x00: the next read tells.
+/* A frame came in on a line: wide is 0 (11 bits) or 1 (29 bits), data has 0 to 8 bytes. Both channels of the line hear it, each if it is open. The
+ * raw one queues it as a record with the clock as its timestamp if it takes the width and its filters let it in; the ISO 15765 one does what the
+ * frame says if it has the pattern and the width of a filter, which may queue a record. Else it is dropped, and 0x00 is the answer all the same.
+ * Where 32 records (ISO 15765: 8) wait already a record is dropped and the lost mark is set, again with 0x00: the next read tells.
  * Codes: 0x1A; 0x13 line over 3; 0x0A wide over 1, identifier over 0x7FF or (wide) 0x1FFFFFFF, or data_length over 8. */
 uint32_t trawl_frame(uint8_t *memory, size_t memory_length, uint32_t line, uint32_t wide, uint32_t identifier, const uint8_t *data,
                      size_t data_length);
 
-/* ---- calls on a channel ---- */
+/* ---- calls on a channel ----
+ *
+ * A record has 36 bytes on channels 1 to 4 and 536 on channels 5 to 8; R stands for that size. */
 
 /* Closes the channel: everything in it is gone, the frame in flight too.
- * Codes: 0x1A; 0x02 channel not 1 to 4, or not open. */
+ * Codes: 0x1A; 0x02 channel not 1 to 8, or not open. */
 uint32_t trawl_disconnect(uint8_t *memory, size_t memory_length, uint32_t channel);
 
-/* Starts a filter, type 1 (pass) or 2 (block); mask and pattern are records of 36 bytes, and what counts of them is copied. Gives the filter's
- * number, the smallest free one of 1 to 10.
+/* Starts a filter of channels 1 to 4, type 1 (pass) or 2 (block); mask and pattern are records of 36 bytes, and what counts of them is copied. Gives
+ * the filter's number, the smallest free one of 1 to 10. On channels 5 to 8 the answer is 0x04, since the flow record is missing.
  * Codes: 0x1A; 0x02; 0x04 mask or pattern under 36 bytes; 0x16 type not 1 or 2; 0x15 protocol of mask or pattern is not 5; 0x0A sizes not equal
  * or not 1 to 12, TxFlags not equal, or a width that the connection doesn't take; 0x0C ten filters exist on the channel. */
 uint32_t trawl_start_filter(uint8_t *memory, size_t memory_length, uint32_t channel, uint32_t type, const uint8_t *mask,
                             size_t mask_length, const uint8_t *pattern, size_t pattern_length, uint32_t *number);
 
-/* Stops the filter of a number; the others keep theirs.
+/* Starts a filter of any channel. On channels 1 to 4 it is trawl_start_filter, and flow isn't looked at. On channels 5 to 8 it is of type 3 and opens
+ * a conversation: mask, pattern and flow are records of 536 bytes with size 4, the mask FF FF FF FF, the pattern the identifier that the partner
+ * sends with and the flow the box's own; they are copied. Gives the filter's number, 1 or 2, the smallest free one.
+ * Codes there: 0x1A; 0x02; 0x04 mask, pattern or flow under 536 bytes; 0x16 type is not 3; 0x15 protocol of one of them is not 6; 0x0A a size is not
+ * 4, the mask is another, TxFlags not all equal, a width that the connection doesn't take, or pattern or flow too large for it; 0x18 pattern or flow
+ * is the pattern or flow of the channel's other filter, in the same width; 0x0C two filters exist on the channel. */
+uint32_t trawl_start_flow_filter(uint8_t *memory, size_t memory_length, uint32_t channel, uint32_t type, const uint8_t *mask,
+                                 size_t mask_length, const uint8_t *pattern, size_t pattern_length, const uint8_t *flow,
+                                 size_t flow_length, uint32_t *number);
+
+/* Stops the filter of a number; the others keep theirs. On channels 5 to 8 its conversation ends: what was being received or sent on it is dropped
+ * without a record, though a frame of it in flight stays there.
  * Codes: 0x1A; 0x02; 0x16 no filter of that number on this channel. */
 uint32_t trawl_stop_filter(uint8_t *memory, size_t memory_length, uint32_t channel, uint32_t number);
 
-/* Starts a periodic; message is a record of 36 bytes, which is copied, interval 5 to 65,535 milliseconds. It is pending at once and then at each
- * whole multiple of the interval after its start, however late it is taken or sent. Gives its number, the smallest free one of 1 to 10.
- * Codes: 0x1A; 0x02; 0x04 message under 36 bytes; 0x0B interval not 5 to 65,535; 0x15 protocol is not 5; 0x0A size not 4 to 12, a width that the
- * connection doesn't take, or an identifier too large for its width; 0x0C ten periodics exist on the channel. */
+/* Starts a periodic; message is a record, which is copied, interval 5 to 65,535 milliseconds. It is pending at once and then at each whole multiple
+ * of the interval after its start, however late it is taken or sent. Gives its number, the smallest free one of 1 to 10. Channels 5 to 8 have none.
+ * Codes: 0x1A; 0x02; 0x04 message under R bytes; 0x01 channels 5 to 8; 0x0B interval not 5 to 65,535; 0x15 protocol is not 5; 0x0A size not 4 to
+ * 12, a width that the connection doesn't take, or an identifier too large for its width; 0x0C ten periodics exist on the channel. */
 uint32_t trawl_start_periodic(uint8_t *memory, size_t memory_length, uint32_t channel, const uint8_t *message, size_t message_length,
                               uint32_t interval, uint32_t *number);
 
@@ -302,30 +407,37 @@ uint32_t trawl_start_periodic(uint8_t *memory, size_t memory_length, uint32_t ch
  * Codes: 0x1A; 0x02; 0x0D no periodic of that number on this channel. */
 uint32_t trawl_stop_periodic(uint8_t *memory, size_t memory_length, uint32_t channel, uint32_t number);
 
-/* Queues the first n records of a buffer of at least 36 * n bytes for sending, in order, until one is refused or 16 are held; they are copied.
- * Gives how many were queued, and the code of the record that stopped it. With n = 0 the answer is 0x00.
- * Codes: 0x1A; 0x02; 0x04 under 36 * n bytes; then for each record 0x15 protocol is not 5; 0x0A as for a periodic; 0x11 sixteen are held. A code
- * with a count above 0 is no refusal: lend the rest again later, from the record that stopped it. */
+/* Queues the first n records of a buffer of at least R * n bytes for sending, in order, until one is refused or 16 (channels 5 to 8: 4) are held;
+ * they are copied. Gives how many were queued, and the code of the record that stopped it. With n = 0 the answer is 0x00.
+ * Codes: 0x1A; 0x02; 0x04 under R * n bytes; then for each record 0x15 protocol is not the channel's; 0x0A size not 4 to 12 (channels 5 to 8: 5 to
+ * 512), a width that the connection doesn't take, or an identifier too large for its width; 0x17 channels 5 to 8: size over 11, and no filter has
+ * this identifier and width as its flow; 0x11 as many are held. A code with a count above 0 is no refusal: lend the rest again later, from the
+ * record that stopped it. */
 uint32_t trawl_write(uint8_t *memory, size_t memory_length, uint32_t channel, uint32_t n, const uint8_t *records, size_t records_length,
                      uint32_t *count);
 
-/* Moves up to n of the oldest received records to the start of a buffer of at least 36 * n bytes; the bytes behind them stay. Gives how many.
- * Codes: 0x1A; 0x02; 0x04 under 36 * n bytes, whatever waits; with n = 0 then 0x00, and nothing changes. Else 0x12 records were lost since the
+/* Moves up to n of the oldest received records to the start of a buffer of at least R * n bytes; the bytes behind them stay. Gives how many.
+ * Codes: 0x1A; 0x02; 0x04 under R * n bytes, whatever waits; with n = 0 then 0x00, and nothing changes. Else 0x12 records were lost since the
  * last report (told once, with the records, be they n, fewer or none: look at the count); 0x00 n records; 0x10 none; 0x09 fewer than n. */
 uint32_t trawl_read(uint8_t *memory, size_t memory_length, uint32_t channel, uint32_t n, uint8_t *buffer, size_t buffer_length,
                     uint32_t *count);
 
-/* The frame to send next, as a record, to the start of a buffer of at least 36 bytes; the bytes behind it stay. It is in flight until it is sent,
- * and as long take gives it again. Else the lowest-numbered pending periodic is taken, else the oldest written record.
- * Codes: 0x1A; 0x02; 0x04 under 36 bytes, whatever waits; 0x10 no frame. */
+/* The frame to send next, as a record, to the start of a buffer of at least R bytes; the bytes behind it stay. It is in flight until it is sent,
+ * and as long take gives it again. Else, on channels 1 to 4, the lowest-numbered pending periodic is taken, else the oldest written record. On
+ * channels 5 to 8: else the flow frame that a partner waits for, that of filter 1 first; else the next frame of the message under way, if the
+ * partner lets it go and the pause that it asked for is over; else, where none is under way, the first frame of the oldest written message, if its
+ * conversation is free.
+ * Codes: 0x1A; 0x02; 0x04 under R bytes, whatever waits; 0x10 no frame. */
 uint32_t trawl_take(uint8_t *memory, size_t memory_length, uint32_t channel, uint8_t *buffer, size_t buffer_length);
 
-/* The frame in flight is on the line: the flight is empty. With loopback on its echo is queued for reading, with the clock as its timestamp, past
- * all filters; where 32 records wait it is lost, the lost mark is set, and 0x00 is the answer all the same.
+/* The frame in flight is on the line: the flight is empty. On channels 1 to 4, with loopback on, its echo is queued for reading, with the clock as
+ * its timestamp, past all filters. On channels 5 to 8 the message goes on; with its last frame TxDone is queued, and with loopback on the message
+ * as its echo behind it. Where 32 records (8) wait a record is lost, the lost mark is set, and 0x00 is the answer all the same.
  * Codes: 0x1A; 0x02; 0x07 nothing in flight. */
 uint32_t trawl_sent(uint8_t *memory, size_t memory_length, uint32_t channel);
 
-/* Empties one of four things, TRAWL_CLEAR_WRITTEN and so on; none of them touches the flight.
+/* Empties one of four things, TRAWL_CLEAR_WRITTEN and so on; none of them touches the flight. On channels 5 to 8 the filters go with what is being
+ * received and sent on them; the other three leave that.
  * Codes: 0x1A; 0x02; 0x0F kind not 1 to 4. */
 uint32_t trawl_clear(uint8_t *memory, size_t memory_length, uint32_t channel, uint32_t kind);
 
@@ -411,7 +523,7 @@ uint32_t trawl_time(uint8_t byte);
 /* ---- recordings ---- */
 
 /* The most bytes that the answer to one event takes: what a buffer for a piece of a replay has to have at least. */
-#define TRAWL_EVENT_ROOM 2306u
+#define TRAWL_EVENT_ROOM 34306u
 
 /* Plays a piece of a recording on a memory, from the place that *at says, and writes the answers to the start of a buffer: event by event, until
  * the recording ends or fewer than TRAWL_EVENT_ROOM bytes of the buffer are free. Gives how many bytes it wrote, and *at becomes the place at
@@ -423,6 +535,8 @@ uint32_t trawl_time(uint8_t byte);
  * The pieces joined are the same bytes whatever room is lent to each, and each moves *at. A bad event ends the recording with the number 255, and
  * *at is at its end; a recording of more than 32,768 bytes counts as one bad event. At the end or past it nothing is played. 0x1A for a broken
  * memory, then 0x04 for a buffer under TRAWL_EVENT_ROOM bytes: nothing changes, *at neither, and the length is 0.
+ *
+ * Records of events that name channels 5 to 8 have 536 bytes, and a start filter there has three: mask, pattern, flow.
  *
  * A recording that begins with the bytes 00 02 (event 0 and its edition, 2) is replayed with the rates that the calls take; one that doesn't is
  * from before, and connect and set take 125000 in it as well. The two bytes have no answer and count in the 32,768. Event 0 anywhere else, or
@@ -454,16 +568,22 @@ uint32_t trawl_replay(uint8_t *memory, size_t memory_length, const uint8_t *reco
 #define ERR_CHANNEL_IN_USE TRAWL_ERR_CHANNEL_IN_USE
 #define ERR_MSG_PROTOCOL_ID TRAWL_ERR_MSG_PROTOCOL_ID
 #define ERR_INVALID_FILTER_ID TRAWL_ERR_INVALID_FILTER_ID
+#define ERR_NO_FLOW_CONTROL TRAWL_ERR_NO_FLOW_CONTROL
+#define ERR_NOT_UNIQUE TRAWL_ERR_NOT_UNIQUE
 #define ERR_INVALID_BAUDRATE TRAWL_ERR_INVALID_BAUDRATE
 #define ERR_INVALID_DEVICE_ID TRAWL_ERR_INVALID_DEVICE_ID
 #define CAN TRAWL_CAN
+#define ISO15765 TRAWL_ISO15765
 #define CAN_29BIT_ID TRAWL_CAN_29BIT_ID
 #define CAN_ID_BOTH TRAWL_CAN_ID_BOTH
 #define PASS_FILTER TRAWL_PASS_FILTER
 #define BLOCK_FILTER TRAWL_BLOCK_FILTER
+#define FLOW_CONTROL_FILTER TRAWL_FLOW_CONTROL_FILTER
 #define DATA_RATE TRAWL_DATA_RATE
 #define LOOPBACK TRAWL_LOOPBACK
 #define TX_MSG_TYPE TRAWL_TX_MSG_TYPE
+#define START_OF_MESSAGE TRAWL_START_OF_MESSAGE
+#define TX_INDICATION TRAWL_TX_INDICATION
 #define CLEAR_TX_BUFFER TRAWL_CLEAR_TX_BUFFER
 #define CLEAR_RX_BUFFER TRAWL_CLEAR_RX_BUFFER
 #define CLEAR_PERIODIC_MSGS TRAWL_CLEAR_PERIODIC_MSGS

@@ -1,5 +1,6 @@
-/* The core against the twin in one run: nanoseconds a call, best of many, and the ratio. `bench [RUNS]`. Devices: idle (four channels, nothing
- * else), typical (three filters, three records, two periodics and two written records a channel) and full. */
+/* The core against the twin in one run: nanoseconds a call, best of many, and the ratio. `bench [RUNS]`. Devices: idle (four raw channels, nothing
+ * else), typical (three filters, three records, two periodics and two written records a raw channel), full, and both (typical, and the four ISO 15765
+ * channels with two conversations each under way). */
 #define _POSIX_C_SOURCE 199309L
 #include <stdio.h>
 #include <stdlib.h>
@@ -10,9 +11,11 @@
 #include "../twin/replay.h"
 #include "../twin/twin.h"
 
-enum { MEMORY = TRAWL_MEMORY, LONGEST = 32768, WHOLE = 1 << 20, FOUR_LINES = 42600 };
+enum { MEMORY = TRAWL_MEMORY, LONGEST = 32768, WHOLE = TWIN_REPLAY_ROOM(LONGEST) + TRAWL_EVENT_ROOM, FOUR_LINES = 42600 };
+enum { ISO_RECORD = 536, PAYLOAD = 508, FRAMES = 73, THEIRS = 0x641, OURS = 0x241 }; /* of a message of 508 bytes; the identifiers of a conversation */
 
-static uint8_t buffer[64 * 36], message[36], data8[8] = {3, 0x7F, 0x10, 0x78, 0, 0, 0, 0};
+static uint8_t buffer[64 * 36], message[36], text[ISO_RECORD], data8[8] = {3, 0x7F, 0x10, 0x78, 0, 0, 0, 0};
+static const uint8_t go_on[3] = {0x30, 0, 0};
 static volatile uint32_t sink;
 
 static void keep(uint32_t v) { sink = v; }
@@ -55,6 +58,42 @@ static void device(uint8_t *m, uint32_t filters, uint32_t records, uint32_t peri
         for (uint32_t i = 0; i < records; i++) twin_frame(m, MEMORY, line, 0, 0x7E8, data8, 8);
         for (uint32_t i = 0; i < periodics; i++) twin_start_periodic(m, MEMORY, line + 1, message, 36, 5 + i, &v);
         for (uint32_t i = 0; i < written; i++) twin_write(m, MEMORY, line + 1, 1, message, 36, &v);
+    }
+}
+
+/* a record of an ISO 15765 channel with n payload bytes */
+static void iso_record(uint8_t *p, uint32_t identifier, uint32_t n) {
+    memset(p, 0, ISO_RECORD);
+    word(p, 6), word(p + 16, 4 + n);
+    for (int i = 0; i < 4; i++) p[24 + i] = (uint8_t)(identifier >> (24 - 8 * i));
+    for (uint32_t i = 0; i < n; i++) p[28 + i] = (uint8_t)i;
+}
+
+/* the ISO 15765 channels beside: two conversations each, idle */
+static void converse(uint8_t *m) {
+    static uint8_t mask[ISO_RECORD], pattern[ISO_RECORD], flow[ISO_RECORD];
+    uint32_t v;
+    iso_record(mask, 0xFFFFFFFF, 0);
+    for (uint32_t line = 0; line < 4; line++) {
+        twin_connect(m, MEMORY, line, 6, 0, 500000, &v);
+        for (uint32_t k = 0; k < 2; k++) {
+            iso_record(pattern, THEIRS + k, 0), iso_record(flow, OURS + k, 0);
+            twin_start_flow_filter(m, MEMORY, line + 5, 3, mask, ISO_RECORD, pattern, ISO_RECORD, flow, ISO_RECORD, &v);
+        }
+    }
+}
+
+/* they are under way: the first receives 508 bytes, the second sends as many */
+static void go_ahead(uint8_t *m) {
+    static const uint8_t first[8] = {0x11, 0xFC};
+    static uint8_t other[ISO_RECORD];
+    uint32_t v;
+    iso_record(other, OURS + 1, PAYLOAD);
+    for (uint32_t line = 0; line < 4; line++) {
+        twin_frame(m, MEMORY, line, 0, THEIRS, first, 8);
+        twin_write(m, MEMORY, line + 5, 1, other, ISO_RECORD, &v);
+        for (int k = 0; k < 2; k++) twin_take(m, MEMORY, line + 5, buffer, sizeof buffer), twin_sent(m, MEMORY, line + 5);
+        twin_frame(m, MEMORY, line, 0, THEIRS + 1, go_on, sizeof go_on);
     }
 }
 
@@ -135,6 +174,31 @@ static void calls(const char *name, const uint8_t *base) {
     }
 }
 
+/* a row: a loop on each side from a device */
+static void row(const char *name, loop core, loop twin, const uint8_t *base, unsigned frames) {
+    double a, b;
+    measure(core, twin, base, &a, &b);
+    printf("  %-28s %8.1f %8.1f %8.2f", name, a, b, a / b);
+    if (frames) printf("   %.1f a frame", a / frames);
+    printf("\n");
+}
+
+static void eight(const uint8_t *idle) {
+    static uint8_t zeros[MEMORY], quiet[MEMORY], both[MEMORY];
+    device(both, 3, 3, 2, 2), converse(both), go_ahead(both);
+    memcpy(quiet, idle, MEMORY), converse(quiet);
+    printf("\nbox of eight: ns a call        core     twin    ratio   (validating)\n");
+    row("valid, nothing open", core_valid, (loop)twin_run_valid, zeros, 0);
+    row("frame, nothing open", core_frame_out, twin_run_frame_out, zeros, 0);
+    row("valid, both, under way", core_valid, (loop)twin_run_valid, both, 0);
+    row("frame, a raw channel's", core_frame_in, twin_run_frame_in, both, 0);
+    row("frame, a conversation's", core_frame_talk, twin_run_frame_talk, both, 0);
+    row("frame, nobody's", core_frame_out, twin_run_frame_out, both, 0);
+    row("advance", core_advance, twin_run_advance, both, 0);
+    row("message of 508, received", core_message_in, twin_run_message_in, quiet, FRAMES);
+    row("message of 508, sent", core_message_out, twin_run_message_out, quiet, FRAMES);
+}
+
 static void growth(void) {
     static uint8_t base[MEMORY];
     double a, b;
@@ -208,17 +272,16 @@ static size_t core_replay(size_t size) {
     return at == size ? length : 0;
 }
 
-static void inner(const char *name, const int *kinds, unsigned n, uint32_t filters) {
-    unsigned events;
-    size_t size = make(kinds, n, filters, &events);
+/* a recording is played by both */
+static void play(const char *name, size_t size, unsigned events) {
     double x = 1e9, y = 1e9, t;
-    size_t a, b;
+    size_t a = 0, b = 0;
     for (int r = 0; r < runs; r++) {
         t = seconds();
         a = core_replay(size);
         if ((t = seconds() - t) < x) x = t;
         t = seconds();
-        twin_replay(recording, size, twin_out, sizeof twin_out, &b);
+        twin_replay(recording, size, twin_out, sizeof twin_out, &b, NULL);
         if ((t = seconds() - t) < y) y = t;
     }
     if (a != b || memcmp(core_out, twin_out, a)) {
@@ -228,14 +291,63 @@ static void inner(const char *name, const int *kinds, unsigned n, uint32_t filte
     printf("  %-28s %8.1f %8.1f %8.2f   %.1f million events a second\n", name, 1e9 * x / events, 1e9 * y / events, x / y, 1e-6 * events / x);
 }
 
+static void inner(const char *name, const int *kinds, unsigned n, uint32_t filters) {
+    unsigned events;
+    size_t size = make(kinds, n, filters, &events);
+    play(name, size, events);
+}
+
+/* a frame of the partner on line 0, as an event */
+static uint8_t *says(uint8_t *p, const uint8_t *b, size_t n) {
+    return some(put(put(put(put(put(p, 5), 0), 0), THEIRS), (uint32_t)n), b, n);
+}
+
+/* channel 5 with a conversation, as events */
+static uint8_t *opens(uint8_t *p) {
+    static uint8_t r[ISO_RECORD];
+    p = put(put(put(put(put(put(put(put(p, 1), 0), 6), 0), 500000), 6), 5), 3);
+    iso_record(r, 0xFFFFFFFF, 0), p = some(p, r, ISO_RECORD);
+    iso_record(r, THEIRS, 0), p = some(p, r, ISO_RECORD);
+    iso_record(r, OURS, 0);
+    return some(p, r, ISO_RECORD);
+}
+
+/* messages of 508 bytes that come, frame by frame, with what the driver does */
+static void messages_in(void) {
+    uint8_t *p = opens(recording), b[8] = {0x11, 0xFC};
+    unsigned events = 2;
+    while (p + 1200 < recording + LONGEST) {
+        b[0] = 0x11, p = put(put(put(put(says(p, b, 8), 12), 5), 13), 5);
+        for (uint32_t k = 1; k < FRAMES; k++) b[0] = (uint8_t)(0x20 | k % 16), p = says(p, b, 8);
+        p = put(put(put(p, 11), 5), 2), events += FRAMES + 3;
+    }
+    play("messages of 508, received", (size_t)(p - recording), events);
+}
+
+static void messages_out(void) {
+    uint8_t *p = opens(recording);
+    unsigned events = 2;
+    while (p + 1200 < recording + LONGEST) {
+        p = some(put(put(put(p, 10), 5), 1), text, ISO_RECORD);
+        for (uint32_t k = 0; k < FRAMES; k++) {
+            p = put(put(put(put(p, 12), 5), 13), 5);
+            if (k == 0) p = says(p, go_on, sizeof go_on);
+        }
+        p = put(put(put(p, 11), 5), 1), events += 2 * FRAMES + 3;
+    }
+    play("messages of 508, sent", (size_t)(p - recording), events);
+}
+
 int main(int argc, char **argv) {
     static uint8_t idle[MEMORY], typical[MEMORY], full[MEMORY];
     static const int only_frames[] = {5};
-    static const int frames[] = {5, 5, 5, 11, 11, 11}, advances[] = {4}, sends[] = {10, 12, 13}, gets[] = {15, 16}, mixed[] = {5, 5, 11, 12, 4, 5, 11, 13};
+    static const int frames[] = {5, 5, 5, 11, 11, 11}, advances[] = {4}, sends[] = {10, 12, 13}, gets[] = {15, 16};
+    static const int mixed[] = {5, 5, 11, 12, 4, 5, 11, 13};
     if (argc > 1) runs = atoi(argv[1]) > 0 ? atoi(argv[1]) : runs;
-    record(message, 8, 0x7E0);
+    record(message, 8, 0x7E0), iso_record(text, OURS, PAYLOAD);
     device(idle, 0, 0, 0, 0), device(typical, 3, 3, 2, 2), device(full, 10, 32, 10, 16);
     calls("idle", idle), calls("typical", typical), calls("full", full);
+    eight(idle);
     growth();
     printf("\nreplayed, inner calls: ns an event  core   twin    ratio\n");
     inner("frames and reads, 3 filters", frames, 6, 3);
@@ -249,5 +361,7 @@ int main(int argc, char **argv) {
     inner("write, take, sent", sends, 3, 0);
     inner("get and set", gets, 2, 0);
     inner("mix", mixed, 8, 3);
+    messages_in();
+    messages_out();
     return 0;
 }

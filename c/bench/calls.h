@@ -128,3 +128,43 @@ static unsigned SIDE(mix)(uint8_t *m) {
     }
     return 40;
 }
+
+/* ---- ISO 15765 ---- */
+
+/* what a conversation receives goes on: the next four frames on each line */
+static unsigned SIDE(frame_talk)(uint8_t *m) {
+    for (uint32_t i = 0; i < 16; i++) {
+        data8[0] = (uint8_t)(0x21 + i / 4);
+        keep(CALL(frame)(m, MEMORY, i & 3, 0, THEIRS, data8, 8));
+    }
+    data8[0] = 3;
+    return 16;
+}
+
+/* a message of 508 bytes comes to channel 5 in 73 frames, and is read with its RxStart: one call here is the whole of it */
+static unsigned SIDE(message_in)(uint8_t *m) {
+    uint8_t b[8] = {0x11, 0xFC};
+    uint32_t v;
+    keep(CALL(frame)(m, MEMORY, 0, 0, THEIRS, b, 8));
+    keep(CALL(take)(m, MEMORY, 5, buffer, sizeof buffer));
+    keep(CALL(sent)(m, MEMORY, 5));
+    for (uint32_t k = 1; k < FRAMES; k++) {
+        b[0] = (uint8_t)(0x20 | k % 16);
+        keep(CALL(frame)(m, MEMORY, 0, 0, THEIRS, b, 8));
+    }
+    keep(CALL(read)(m, MEMORY, 5, 2, buffer, sizeof buffer, &v) + v);
+    return 1;
+}
+
+/* one goes in 73 frames, and its TxDone is read */
+static unsigned SIDE(message_out)(uint8_t *m) {
+    uint32_t v;
+    keep(CALL(write)(m, MEMORY, 5, 1, text, sizeof text, &v) + v);
+    for (uint32_t k = 0; k < FRAMES; k++) {
+        keep(CALL(take)(m, MEMORY, 5, buffer, sizeof buffer));
+        keep(CALL(sent)(m, MEMORY, 5));
+        if (k == 0) keep(CALL(frame)(m, MEMORY, 0, 0, THEIRS, go_on, sizeof go_on));
+    }
+    keep(CALL(read)(m, MEMORY, 5, 1, buffer, sizeof buffer, &v) + v);
+    return 1;
+}

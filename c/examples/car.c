@@ -126,8 +126,8 @@ static void driver(uint32_t elapsed) {
     for (; elapsed > 1000000u; elapsed -= 1000000u) trawl_advance(box, sizeof box, 1000000u);
     trawl_advance(box, sizeof box, elapsed);
     for (line = 0; line < LINES; line++) {
-        while (controller_received(line, &f)) trawl_frame(box, sizeof box, line, f.wide, f.identifier, f.data, f.n);
         if (controller_has_sent(line)) trawl_sent(box, sizeof box, line + 1);
+        while (controller_received(line, &f)) trawl_frame(box, sizeof box, line, f.wide, f.identifier, f.data, f.n);
         if (!controllers[line].busy && trawl_take(box, sizeof box, line + 1, record, sizeof record) == TRAWL_STATUS_NOERROR)
             controller_send(line, record);
     }

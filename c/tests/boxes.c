@@ -42,11 +42,7 @@ static void make(story *s) {
     for (i = 0; i < EVENTS; i++) {
         event *e = &s->events[i];
         random_event(e, 8);
-        if (i < 4) {
-            memset(e, 0, sizeof *e);
-            lend(&e->first, 0), lend(&e->second, 0);
-            e->kind = CONNECT, e->a = i, e->b = 5, e->c = 0x800, e->d = 500000;
-        }
+        if (i < CHANNELS) connect_event(e, i % 4, i < 4 ? 5 : 6, 0x800, 500000);
         s->replies[i] = play(s, i, s->memory, &room);
     }
 }

@@ -8,7 +8,7 @@
 #include "../twin/twin.h"
 #include "support.h"
 
-enum { REGION = (TRAWL_MEMORY - 4) / 4, RATE = 5, EVENTS = 400 }; /* a channel's region, and where its rate lies in it */
+enum { RATE = 5, EVENTS = 400 }; /* where a channel's rate lies in its region */
 
 static unsigned long counted[KINDS + 1][0x20], olds;
 
@@ -37,13 +37,18 @@ static int refused(const event *e, reply r) {
 
 /* ---- the last code of each channel, kept here once more from the answers ---- */
 
-static uint8_t last[5]; /* by channel */
+static uint8_t last[CHANNELS + 1]; /* by channel */
+
+/* the channel that a connect is about; 0 where there is none */
+static uint32_t connects(const event *e) { return e->a > 3 ? 0 : e->b == 5 ? e->a + 1 : e->b == 6 ? e->a + 5 : 0; }
+
+static int is_open(const uint8_t *memory, uint32_t channel) { return is_channel(channel) && memory[region_of(channel)]; }
 
 static void note(const event *e, reply r) {
     switch (e->kind) {
     case CONNECT:
-        if (r.code == 0x00) last[e->a + 1] = 0;
-        if (r.code == 0x14) last[e->a + 1] = 0x14;
+        if (r.code == 0x00) last[connects(e)] = 0;
+        if (r.code == 0x14) last[connects(e)] = 0x14;
         break;
     case DISCONNECT:
         if (r.code == 0x00) last[e->a] = 0;
@@ -60,8 +65,8 @@ static void note(const event *e, reply r) {
 static void ask(const event *e, uint64_t turn) {
     static uint8_t before[TRAWL_MEMORY];
     memcpy(before, core, TRAWL_MEMORY);
-    for (uint32_t channel = 0; channel <= 5; channel++) {
-        int open = channel >= 1 && channel <= 4 && core[region_of(channel)];
+    for (uint32_t channel = 0; channel <= CHANNELS + 1; channel++) {
+        int open = is_open(core, channel);
         uint32_t code = open ? 0x00 : 0x02, number = open ? last[channel] : 0, a = 77, b = 77;
         if (trawl_last_error(core, TRAWL_MEMORY, channel, &a) != code || a != number) fail("the last code, core", e, turn);
         if (twin_last_error(twin, TRAWL_MEMORY, channel, &b) != code || b != number) fail("the last code, twin", e, turn);
@@ -73,9 +78,8 @@ static void ask(const event *e, uint64_t turn) {
 static void one_by_one(uint8_t *memory, const event *e, lent *after, reply r, uint64_t turn) {
     static lent list;
     uint32_t code = 0x00, parameter, value, given;
-    int open = e->a >= 1 && e->a <= 4 && memory[region_of(e->a)];
     list = e->first;
-    if (!open) code = 0x02;
+    if (!is_open(memory, e->a)) code = 0x02;
     else if (pairs_of(&list) > TRAWL_PAIRS) code = memory[last_of(e->a)] = 0x04;
     for (size_t i = 0; code == 0x00 && i < pairs_of(&list); i++) {
         pair_at(&list, i, &parameter, &value);
@@ -98,7 +102,7 @@ static reply both(event *e, uint64_t turn) {
     a = on_core(core, TRAWL_MEMORY, &mine);
     note(e, a);
     if (refused(e, a)) {
-        for (uint32_t channel = 1; channel <= 4; channel++) before[last_of(channel)] = last[channel];
+        for (uint32_t channel = 1; channel <= CHANNELS; channel++) before[last_of(channel)] = last[channel];
         if (memcmp(before, core, TRAWL_MEMORY)) fail("a refusal changed the memory", e, turn);
         if (memcmp(mine.first.room, e->first.room, sizeof mine.first.room)) fail("a refusal changed a buffer", e, turn);
         if (a.value != 0) fail("a refusal gave a number", e, turn);
@@ -107,10 +111,9 @@ static reply both(event *e, uint64_t turn) {
     b = on_twin(twin, TRAWL_MEMORY, e);
     if (a.code != b.code) fail("code", e, turn);
     if (a.value != b.value) fail("value", e, turn);
-    if (!guarded(&mine.first) || !guarded(&mine.second)) fail("guard bytes of a buffer", e, turn);
+    if (!guarded(&mine.first) || !guarded(&mine.second) || !guarded(&mine.third)) fail("guard bytes of a buffer", e, turn);
     if (!memory_guarded(core_room)) fail("guard bytes of the memory", e, turn);
-    if (memcmp(mine.first.room, e->first.room, sizeof mine.first.room) || memcmp(mine.second.room, e->second.room, sizeof mine.second.room))
-        fail("buffer", e, turn);
+    if (memcmp(&mine, e, sizeof mine)) fail("buffer", e, turn);
     if (memcmp(core, twin, TRAWL_MEMORY)) fail("memory", e, turn);
     ask(e, turn);
     counted[e->kind][a.code & 0x1F]++;
@@ -124,15 +127,14 @@ static void power_on(void) {
     memset(last, 0, sizeof last);
 }
 
-/* ---- random sequences on four channels ---- */
+/* ---- random sequences on eight channels ---- */
 
-/* a memory kept from before: this line's channel, if it is open, has the rate that no call takes any more */
-static void old_rate(uint32_t line) {
-    size_t region = region_of(line + 1);
-    if (!core[region]) return;
-    trawl_store32(core + region + RATE, 125000);
+/* a memory kept from before: this channel, if it is open, has the rate that no call takes any more */
+static void old_rate(uint32_t channel) {
+    if (!is_open(core, channel)) return;
+    trawl_store32(core + region_of(channel) + RATE, 125000);
     memcpy(twin, core, TRAWL_MEMORY);
-    if (!trawl_valid(core, TRAWL_MEMORY)) fail("a memory that holds 125,000 is not valid", NULL, line);
+    if (!trawl_valid(core, TRAWL_MEMORY)) fail("a memory that holds 125,000 is not valid", NULL, channel);
     olds++;
 }
 
@@ -141,14 +143,12 @@ static void sequences(uint32_t rounds) {
     for (uint32_t r = 0; r < rounds; r++) {
         int damage = (int)(r % 4) * 8;
         power_on();
-        for (uint32_t line = 0; line < 4; line++) {
-            memset(&e, 0, sizeof e);
-            lend(&e.first, 0), lend(&e.second, 0);
-            e.kind = CONNECT, e.a = line, e.b = 5, e.c = (uint32_t[]){0, 0x100, 0x800, 0x900}[(line + r) % 4], e.d = 500000;
+        for (uint32_t k = 0; k < CHANNELS; k++) {
+            connect_event(&e, k % 4, k < 4 ? 5 : 6, (uint32_t[]){0, 0x100, 0x800, 0x900}[(k + r) % 4], 500000);
             if (chance(80)) both(&e, r);
         }
         for (uint32_t i = 0; i < EVENTS; i++) {
-            if (r % 2 && i % 100 == 0) old_rate(below(4));
+            if (r % 2 && i % 100 == 0) old_rate(1 + below(CHANNELS));
             random_event(&e, damage);
             both(&e, (uint64_t)r * EVENTS + i);
         }
@@ -184,12 +184,12 @@ static void same_verdict(size_t length, const char *what, uint64_t turn) {
     if (memcmp(&mine, &e, sizeof e)) fail("0x1A changed a buffer", &e, turn);
 }
 
-/* every single byte, changed in four ways */
+/* every single byte, changed in four ways; in the long regions of channels 5 to 8 in one */
 static void each_byte(void) {
     for (size_t i = 0; i < TRAWL_MEMORY; i++) {
         uint8_t was = core[i];
         uint8_t to[4] = {0, 1, (uint8_t)(was ^ (1u << below(8))), (uint8_t)any()};
-        for (int k = 0; k < 4; k++) {
+        for (uint32_t k = i < region_of(5) ? 0 : below(4), n = i < region_of(5) ? 4 : k + 1; k < n; k++) {
             if (to[k] == was) continue;
             core[i] = to[k];
             same_verdict(TRAWL_MEMORY, "verdict on one changed byte", i);
@@ -200,10 +200,11 @@ static void each_byte(void) {
 
 /* numbers of four bytes at and beside their limits: a periodic's interval and time, a rate, a record's size */
 static void each_limit(void) {
-    static const uint32_t limits[] = {0, 1, 3, 4, 5, 12, 13, 0x100, 0x101, 0x7FF, 0x800, 0x900, 65535, 65536, 125000, 250000, 500000, 5000, 5001, 65535000, 65535001};
-    for (uint32_t line = 0; line < 4; line++)
-        for (size_t at = 1; at + 4 <= REGION; at += at < 320 || at >= 360 ? 1 : 4) {
-            uint8_t *p = core + region_of(line + 1) + at, was[4];
+    static const uint32_t limits[] = {0,     1,     3,     4,      5,      12,     13,   0x100, 0x101,    0x7FF,   0x800,
+                                      0x900, 65535, 65536, 125000, 250000, 500000, 5000, 5001,  65535000, 65535001};
+    for (uint32_t channel = 1; channel <= 4; channel++)
+        for (size_t at = 1; at + 4 <= region_size(channel); at += at < 320 || at >= 360 ? 1 : 4) {
+            uint8_t *p = core + region_of(channel) + at, was[4];
             memcpy(was, p, 4);
             for (size_t k = 0; k < sizeof limits / sizeof *limits; k++) {
                 uint32_t v = limits[k];
@@ -215,13 +216,37 @@ static void each_limit(void) {
         }
 }
 
+/* does a number of a conversation or of a record lie about here in the region of channels 5 to 8? Their payloads don't count */
+static int in_numbers(size_t at) { return at < 42 || (at >= 550 && at < 582) || (at >= 1090 && (at - 1090) % TRAWL_ISO_RECORD < 32); }
+
+/* the same on channels 5 to 8: sizes, counts, times, waits, pauses */
+static void each_iso_limit(void) {
+    static const uint32_t limits[] = {0, 1, 2, 4, 5, 6, 7, 8, 9, 13, 255, 256, 257, 508, 509, 512, 513, 900, 1100, 127000, 128000, 999999, 1000000};
+    for (uint32_t channel = 5; channel <= CHANNELS; channel++)
+        for (size_t at = 1; at + 4 <= region_size(channel); at += in_numbers(at) ? 1 : 97) {
+            uint8_t *p = core + region_of(channel) + at, was[4];
+            memcpy(was, p, 4);
+            for (size_t k = 0; k < sizeof limits / sizeof *limits; k++) {
+                trawl_store32(p, limits[k]);
+                same_verdict(TRAWL_MEMORY, "verdict on a number at its limit, channels 5 to 8", at);
+            }
+            memcpy(p, was, 4);
+        }
+}
+
+/* may an open channel keep this code? 0x0B is given for periodics, 0x17 and 0x18 for conversations */
+static int is_kept(uint32_t channel, int code) {
+    static const uint8_t good[] = {0x01, 0x04, 0x05, 0x07, 0x09, 0x0A, 0x0C, 0x0D, 0x0F, 0x10, 0x11, 0x12, 0x14, 0x15, 0x16};
+    if (memchr(good, code, sizeof good)) return 1;
+    return is_iso(channel) ? code == 0x17 || code == 0x18 : code == 0x0B;
+}
+
 /* every byte as a last code: a closed channel has 0, an open one may have those that calls on it give */
 static void each_last(void) {
-    static const uint8_t good[] = {0x00, 0x01, 0x04, 0x05, 0x07, 0x09, 0x0A, 0x0B, 0x0C, 0x0D, 0x0F, 0x10, 0x11, 0x12, 0x14, 0x15, 0x16};
-    for (uint32_t channel = 1; channel <= 4; channel++) {
+    for (uint32_t channel = 1; channel <= CHANNELS; channel++) {
         uint8_t was = core[last_of(channel)];
         for (int v = 0; v < 256; v++) {
-            int fits = v == 0 || (core[region_of(channel)] && memchr(good, v, sizeof good));
+            int fits = v == 0 || (core[region_of(channel)] && is_kept(channel, v));
             core[last_of(channel)] = (uint8_t)v;
             if (twin_valid(core, TRAWL_MEMORY) != fits) fail("a last code, twin", NULL, (uint64_t)v);
             same_verdict(TRAWL_MEMORY, "a last code, core", (uint64_t)v);
@@ -259,10 +284,11 @@ static void damaged(uint32_t rounds) {
         busy();
         each_byte();
         each_limit();
+        each_iso_limit();
         each_last();
         several_bytes();
         each_length();
-        memset(core + region_of(2), 0, REGION), memset(core + region_of(4), 0, REGION); /* two are closed */
+        for (uint32_t channel = 2; channel <= CHANNELS; channel += 2) memset(core + region_of(channel), 0, region_size(channel)); /* four are closed */
         each_byte();
         each_last();
         random_bytes();
@@ -274,14 +300,16 @@ static void damaged(uint32_t rounds) {
 static void short_buffers(void) {
     static event e;
     busy();
-    for (int kind = START_FILTER; kind <= TAKE; kind++)
-        for (uint32_t n = 0; n <= 80; n++)
-            for (uint32_t channel = 0; channel <= 5; channel++) {
-                memset(&e, 0, sizeof e);
-                e.kind = kind, e.a = channel, e.b = kind == START_FILTER ? 1 : kind == START_PERIODIC ? 5 : n % 4;
-                lend(&e.first, n), lend(&e.second, kind == START_FILTER && n % 3 ? 36 : n);
+    for (int kind = START_FILTER; kind <= KINDS; kind++)
+        for (uint32_t n = 0; n <= 2 * TRAWL_ISO_RECORD + 1; n += n < 80 || n % TRAWL_ISO_RECORD > TRAWL_ISO_RECORD - 3 ? 1 : 23) {
+            if (kind > TAKE && kind != START_FLOW) continue;
+            for (uint32_t channel = 0; channel <= CHANNELS + 1; channel++) {
+                connect_event(&e, 0, 0, 0, 0);
+                e.kind = kind, e.a = channel, e.b = kind == START_FILTER ? 1 : kind == START_FLOW ? 3 : kind == START_PERIODIC ? 5 : n % 4;
+                lend(&e.first, n), lend(&e.second, n % 3 ? record_of(channel) : n), lend(&e.third, n % 2 ? record_of(channel) : n);
                 both(&e, n);
             }
+        }
 }
 
 /* ---- lists of every length, refused at every place, in every way, by both calls ---- */
@@ -289,10 +317,10 @@ static void short_buffers(void) {
 static void list_of(uint32_t n, uint32_t place, uint32_t parameter, uint32_t value) {
     static event e;
     for (int kind = SET_LIST; kind <= GET_LIST; kind++)
-        for (uint32_t channel = 0; channel <= 5; channel++) {
-            memset(&e, 0, sizeof e);
+        for (uint32_t channel = 0; channel <= CHANNELS + 1; channel++) {
+            connect_event(&e, 0, 0, 0, 0);
             e.kind = kind, e.a = channel;
-            lend(&e.first, PAIR * n), lend(&e.second, 0);
+            lend(&e.first, PAIR * n);
             for (uint32_t i = 0; i < n; i++) {
                 uint32_t which = chance(50) ? 1 : 3; /* most stand there more than once */
                 put_pair(&e.first, i, which, which == 3 ? below(2) : chance(50) ? 250000 : 500000);
@@ -306,28 +334,24 @@ static void lists(void) {
     static const uint32_t bad[][2] = {{0, 0}, {2, 1}, {9, 500000}, {257, 0}, {0xFFFFFFFF, 1}, {1, 125000}, {1, 0}, {1, 500001}, {3, 2}, {3, 0x100}};
     static const uint32_t many[] = {17, 18, 32, 33, 256, 257, 272, 512};
     busy();
-    old_rate(1);
+    old_rate(2), old_rate(6);
     for (uint32_t n = 0; n <= 17; n++) {
         list_of(n, n, 0, 0);
         for (uint32_t place = 0; place < n; place++)
             for (size_t k = 0; k < sizeof bad / sizeof *bad; k++) list_of(n, place, bad[k][0], bad[k][1]);
-        if (n % 6 == 0) old_rate(n % 4);
+        if (n % 6 == 0) old_rate(1 + n % CHANNELS);
     }
     for (size_t k = 0; k < sizeof many / sizeof *many; k++) list_of(many[k], 0, 9, 9), list_of(many[k], many[k], 0, 0);
 }
 
 /* ---- demand 3 as an experiment ---- */
 
-static int concerns(uint32_t line, const event *e) {
-    if (e->kind == CONNECT || e->kind == FRAME) return e->a == line;
-    if (e->kind == ADVANCE || e->kind == CLOSE) return 1;
-    return e->a == line + 1;
-}
-
-static int named(const event *e, uint32_t *line) {
-    if (e->kind == ADVANCE || e->kind == CLOSE) return 0;
-    *line = e->kind == CONNECT || e->kind == FRAME ? e->a : e->a - 1;
-    return 1;
+/* the channels that an event concerns, a bit each: those of a frame's line, the one that a connect is about or a call names, or all */
+static uint32_t concerned(const event *e) {
+    if (e->kind == ADVANCE || e->kind == CLOSE) return 0x1FE;
+    if (e->kind == FRAME) return e->a > 3 ? 0 : 0x22u << e->a;
+    if (e->kind == CONNECT) return connects(e) ? 1u << connects(e) : 0;
+    return is_channel(e->a) ? 1u << e->a : 0;
 }
 
 static void isolation(uint32_t rounds) {
@@ -344,23 +368,22 @@ static void isolation(uint32_t rounds) {
             buffers[i] = e.first;
         }
         memcpy(whole, core, TRAWL_MEMORY);
-        for (uint32_t line = 0; line < 4; line++) {
+        for (uint32_t channel = 1; channel <= CHANNELS; channel++) {
             memset(core, 0, TRAWL_MEMORY);
             for (int i = 0; i < EVENTS; i++) {
                 reply x;
-                if (!concerns(line, &es[i])) continue;
+                if (!(concerned(&es[i]) >> channel & 1)) continue;
                 e = es[i];
                 x = on_core(core, TRAWL_MEMORY, &e);
                 if (x.code != rs[i].code || x.value != rs[i].value) fail("struck out: an answer", &es[i], r);
                 if (memcmp(&e.first, &buffers[i], sizeof e.first)) fail("struck out: a buffer", &es[i], r);
             }
-            if (memcmp(core, whole, 4) || memcmp(core + region_of(line + 1), whole + region_of(line + 1), REGION))
+            if (memcmp(core, whole, 4) || memcmp(core + region_of(channel), whole + region_of(channel), region_size(channel)))
                 fail("struck out: what it holds", NULL, r);
         }
         for (int k = 0; k < 20; k++) {
             int at = (int)below(EVENTS - 1);
-            uint32_t p, q;
-            if (!named(&es[at], &p) || !named(&es[at + 1], &q) || p == q) continue;
+            if (concerned(&es[at]) & concerned(&es[at + 1])) continue;
             memset(core, 0, TRAWL_MEMORY);
             for (int i = 0; i < EVENTS; i++) {
                 int j = i == at ? at + 1 : i == at + 1 ? at : i;

@@ -21,10 +21,35 @@ static void must(int true_, const char *what) {
 #define STAYS(code, want, call, number)                                                                                                   \
     (number = 77, memcpy(before, box, sizeof box), must((call) == (code) && number == (want) && memcmp(before, box, sizeof box) == 0, #call))
 
-/* the same of a refused call on channel 1: the memory as it was but for the channel's last code */
-#define NOTED(code, want, call, number)                                                                                                   \
-    (number = 77, memcpy(before, box, sizeof box), before[last_of(1)] = (code),                                                           \
+/* the same of a refused call on a channel, 1 unless told: the memory as it was but for the channel's last code */
+#define NOTED_ON(channel, code, want, call, number)                                                                                       \
+    (number = 77, memcpy(before, box, sizeof box), before[last_of(channel)] = (code),                                                     \
      must((call) == (code) && number == (want) && memcmp(before, box, sizeof box) == 0, #call))
+#define NOTED(code, want, call, number) NOTED_ON(1, code, want, call, number)
+
+/* the same calls on an ISO 15765 channel */
+static void conversations(void) {
+    static uint8_t mask[TRAWL_ISO_RECORD], record[TRAWL_ISO_RECORD];
+    uint32_t v;
+    must(trawl_connect(box, sizeof box, 0, 6, 0, 500000, &v) == 0 && v == 5, "connect");
+    trawl_iso_record_make(mask, 0, 0xFFFFFFFF, NULL, 0);
+    trawl_iso_record_make(record, 0, 0x7E8, NULL, 0);
+    NOTED_ON(5, 0x04, 0, trawl_start_flow_filter(box, sizeof box, 5, 3, NULL, 0, record, sizeof record, record, sizeof record, &v), v);
+    NOTED_ON(5, 0x04, 0, trawl_start_flow_filter(box, sizeof box, 5, 3, mask, sizeof mask, NULL, 0, record, sizeof record, &v), v);
+    NOTED_ON(5, 0x04, 0, trawl_start_flow_filter(box, sizeof box, 5, 3, mask, sizeof mask, record, sizeof record, NULL, 0, &v), v);
+    NOTED_ON(5, 0x04, 0, trawl_start_filter(box, sizeof box, 5, 3, NULL, 0, NULL, 0, &v), v);
+    NOTED_ON(5, 0x04, 0, trawl_start_periodic(box, sizeof box, 5, NULL, 0, 5, &v), v);
+    NOTED_ON(5, 0x04, 0, trawl_write(box, sizeof box, 5, 1, NULL, 0, &v), v);
+    STAYS(0x00, 0, trawl_write(box, sizeof box, 5, 0, NULL, 0, &v), v);
+    NOTED_ON(5, 0x04, 0, trawl_read(box, sizeof box, 5, 1, NULL, 0, &v), v);
+    STAYS(0x00, 0, trawl_read(box, sizeof box, 5, 0, NULL, 0, &v), v);
+    NOTED_ON(5, 0x04, 77, trawl_take(box, sizeof box, 5, NULL, 0), v);
+    STAYS(0x00, 77, trawl_set_list(box, sizeof box, 5, NULL, 0), v);
+    STAYS(0x00, 77, trawl_get_list(box, sizeof box, 5, NULL, 0), v);
+    must(trawl_start_flow_filter(box, sizeof box, 5, 3, mask, sizeof mask, record, sizeof record, record, sizeof record, &v) == 0 && v == 1, "filter");
+    STAYS(0x00, 77, trawl_frame(box, sizeof box, 0, 0, 0x7E8, NULL, 0), v); /* a frame without data says nothing */
+    must(trawl_disconnect(box, sizeof box, 5) == 0, "disconnect");
+}
 
 int main(void) {
     static uint8_t record[TRAWL_RECORD], mask[TRAWL_RECORD], telegram[TRAWL_TELEGRAM], room[TRAWL_EVENT_ROOM];
@@ -39,6 +64,7 @@ int main(void) {
     NONE_ALONE(trawl_frame(NULL, 0, 0, 0, 0, NULL, 0));
     NONE_ALONE(trawl_disconnect(NULL, 0, 1));
     NONE(trawl_start_filter(NULL, 0, 1, 1, NULL, 0, NULL, 0, &v), v);
+    NONE(trawl_start_flow_filter(NULL, 0, 5, 3, NULL, 0, NULL, 0, NULL, 0, &v), v);
     NONE_ALONE(trawl_stop_filter(NULL, 0, 1, 1));
     NONE(trawl_start_periodic(NULL, 0, 1, NULL, 0, 5, &v), v);
     NONE_ALONE(trawl_stop_periodic(NULL, 0, 1, 1));
@@ -70,6 +96,7 @@ int main(void) {
     STAYS(0x02, 77, trawl_get_list(box, sizeof box, 2, NULL, 0), v);
     STAYS(0x13, 77, trawl_frame(box, sizeof box, 4, 0, 0, NULL, 0), v);
     STAYS(0x00, 77, trawl_frame(box, sizeof box, 0, 0, 0x7E8, NULL, 0), v); /* no filter lets nothing in */
+    conversations();
 
     /* a frame without data: a filter of twelve bytes doesn't match it, one of four does */
     trawl_record_make(mask, 0, 0x7FF, (const uint8_t *)"\xFF\xFF\xFF\xFF\xFF\xFF\xFF\xFF", 8);
@@ -95,7 +122,8 @@ int main(void) {
     v = 77, must(trawl_write_telegram(NULL, 0, room, sizeof room, &v) == 0x04 && v == 0, "no telegram");
     must(trawl_replay(box, sizeof box, NULL, 0, &at, room, sizeof room, &length) == 0 && length == 0 && at == 0, "an empty recording");
     length = 77, must(trawl_replay(box, sizeof box, NULL, 0, &at, NULL, 0, &length) == 0x04 && length == 0, "an empty recording into nothing");
-    length = 77, must(trawl_replay(box, sizeof box, (const uint8_t *)"\x03", 1, &at, NULL, 0, &length) == 0x04 && length == 0, "a recording into nothing");
+    length = 77;
+    must(trawl_replay(box, sizeof box, (const uint8_t *)"\x03", 1, &at, NULL, 0, &length) == 0x04 && length == 0, "a recording into nothing");
     length = 77, must(trawl_replay(NULL, 0, NULL, 0, &at, NULL, 0, &length) == 0x1A && length == 0 && at == 0, "no memory");
     printf("NULL with length 0: %lu calls answered as the header says\n", held);
     return 0;

@@ -8,7 +8,7 @@
 #include "iso_side.h"
 #include "random.h"
 
-enum { GUARD = 16, ROOM = 10 * RECORD, SIDES = 2, PAIRS = 20 };
+enum { GUARD = 16, ROOM = 10 * RECORD, SIDES = 2 };
 enum { CONNECT = 1, DISCONNECT, CLOSE, ADVANCE, FRAME, START_FILTER, STOP_FILTER, START_PERIODIC, STOP_PERIODIC, WRITE, READ, TAKE, SENT, CLEAR,
        GET, SET, SET_LIST, GET_LIST, LAST_ERROR, KINDS = LAST_ERROR };
 
@@ -22,7 +22,7 @@ typedef struct {
     int kind;
     uint32_t a, b, c, d; /* its numbers; a is the line or the channel */
     lent first, second, third;
-    struct twin_pair pairs[PAIRS];
+    struct twin_pair pairs[PAIRS_MOST];
     size_t count;
 } event;
 

@@ -3,18 +3,47 @@
 
 #include <string.h>
 
-#include "../twin/box.h"
+#define TRAWL_NO_J2534_NAMES
+#include "../../include/trawlpepper.h"
+#include "../twin/iso.h"
+#include "../twin/raw.h"
 #include "random.h"
 
 uint64_t seed = 1;
 
-static const side twin = {
-    "the twin", BOX_MEMORY, TWIN_MEMORY, ISO_REGION,
-    box_valid, box_power_on, box_connect, box_disconnect, box_close, box_advance, box_frame, box_start_filter, box_stop_filter,
-    box_start_periodic, box_stop_periodic, box_write, box_read, box_take, box_sent, box_clear, box_get, box_set, box_set_list, box_get_list,
-    box_last_error};
+typedef char memories_are_alike[TRAWL_MEMORY == TWIN_MEMORY && sizeof(struct trawl_pair) == sizeof(struct twin_pair) ? 1 : -1];
 
-const side *const sides[] = {&twin, NULL};
+/* the core's calls whose types are not the twin's: a verdict, lists */
+static int core_valid(const uint8_t *m, size_t len) { return trawl_valid(m, len) != 0; }
+
+static uint32_t core_set_list(uint8_t *m, size_t len, uint32_t channel, const struct twin_pair *pairs, size_t count) {
+    struct trawl_pair list[PAIRS_MOST];
+    memcpy(list, pairs, count * sizeof *list);
+    return trawl_set_list(m, len, channel, list, count);
+}
+
+static uint32_t core_get_list(uint8_t *m, size_t len, uint32_t channel, struct twin_pair *pairs, size_t count) {
+    struct trawl_pair list[PAIRS_MOST];
+    uint32_t code;
+    memcpy(list, pairs, count * sizeof *list);
+    code = trawl_get_list(m, len, channel, list, count);
+    memcpy(pairs, list, count * sizeof *list);
+    return code;
+}
+
+static const side twin = {
+    "the twin", TWIN_MEMORY, RAW_PART, ISO_REGION,
+    twin_valid, twin_power_on, twin_connect, twin_disconnect, twin_close, twin_advance, twin_frame, twin_start_flow_filter, twin_stop_filter,
+    twin_start_periodic, twin_stop_periodic, twin_write, twin_read, twin_take, twin_sent, twin_clear, twin_get, twin_set, twin_set_list,
+    twin_get_list, twin_last_error};
+
+static const side core = {
+    "the core", TRAWL_MEMORY, RAW_PART, ISO_REGION,
+    core_valid, trawl_power_on, trawl_connect, trawl_disconnect, trawl_close, trawl_advance, trawl_frame, trawl_start_flow_filter,
+    trawl_stop_filter, trawl_start_periodic, trawl_stop_periodic, trawl_write, trawl_read, trawl_take, trawl_sent, trawl_clear, trawl_get,
+    trawl_set, core_set_list, core_get_list, trawl_last_error};
+
+const side *const sides[] = {&core, &twin, NULL};
 
 uint32_t word(const uint8_t *p) { return (uint32_t)p[0] | (uint32_t)p[1] << 8 | (uint32_t)p[2] << 16 | (uint32_t)p[3] << 24; }
 

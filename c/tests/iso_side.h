@@ -8,6 +8,7 @@
 #include "../twin/twin.h"
 
 enum { BOX_MOST = 65536, RAW_RECORD = 36, RECORD = 536, LONGEST = 508 }; /* a memory at most; a raw record; one of these channels, its payload */
+enum { PAIRS_MOST = 20 };                                                /* of a list */
 
 typedef struct {
     const char *name;
@@ -37,7 +38,7 @@ typedef struct {
     uint32_t (*last_error)(const uint8_t *m, size_t len, uint32_t channel, uint32_t *code);
 } side;
 
-extern const side *const sides[]; /* all there are, then NULL; their memories lie alike */
+extern const side *const sides[]; /* the core, the twin, then NULL; their memories lie alike */
 
 /* ---- numbers and records in bytes ---- */
 

@@ -58,6 +58,8 @@
 #define CAN_29BIT_ID 0x00000100
 #define CAN_ID_BOTH 0x00000800
 #define TX_MSG_TYPE 0x00000001
+#define START_OF_MESSAGE 0x00000002
+#define TX_INDICATION 0x00000008
 
 typedef struct {
     unsigned long ProtocolID;

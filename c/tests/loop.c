@@ -7,7 +7,8 @@
 #include "../../include/trawlpepper.h"
 #include "support.h"
 
-static uint8_t box[TRAWL_MEMORY], record[TRAWL_RECORD], data[8];
+static uint8_t box[TRAWL_MEMORY], record[TRAWL_ISO_RECORD], data[8];
+static uint32_t turn[4];
 static size_t n;
 static unsigned long held;
 
@@ -20,6 +21,7 @@ static void must(int true_, const char *what) {
 
 static uint32_t elapsed, arriving[4], handed[4], last[4]; /* frames still to come; how often it was handed one, and the last one's identifier */
 static int busy[4], sent[4], fails;
+static const char *partner; /* what a partner on line 1 says next: three bytes */
 
 static uint32_t microseconds_since_last_time(void) {
     uint32_t us = elapsed;
@@ -28,6 +30,12 @@ static uint32_t microseconds_since_last_time(void) {
 }
 
 static int controller_received(uint32_t line, uint32_t *wide, uint32_t *id, uint8_t *bytes, size_t *length) {
+    if (partner && line == 1) {
+        *wide = 0, *id = 0x641, *length = 3;
+        memcpy(bytes, partner, 3);
+        partner = NULL;
+        return 1;
+    }
     if (arriving[line] == 0) return 0;
     arriving[line]--;
     *wide = 0, *id = 0x7E8, *length = 2, bytes[0] = 0x01, bytes[1] = 0x02;
@@ -43,7 +51,7 @@ static int controller_has_sent(uint32_t line) {
 static int controller_idle(uint32_t line) { return !busy[line]; }
 
 static void controller_send(uint32_t line, uint32_t wide, uint32_t id, const uint8_t *bytes, size_t length) {
-    must(wide == 0 && length == 1 && bytes[0] == (id & 0xFF), "what is handed over");
+    must(wide == 0 && (id < 0x700 || (length == 1 && bytes[0] == (id & 0xFF))), "what is handed over");
     busy[line] = 1, handed[line]++, last[line] = id;
 }
 
@@ -73,6 +81,26 @@ static uint32_t read_one(uint32_t channel) {
     uint32_t count;
     trawl_read(box, sizeof box, channel, 1, record, sizeof record, &count);
     return count;
+}
+
+/* a conversation on channel 6, and a message of ten bytes for it */
+static void converse(void) {
+    uint8_t mask[TRAWL_ISO_RECORD], pattern[TRAWL_ISO_RECORD], flow[TRAWL_ISO_RECORD], message[TRAWL_ISO_RECORD];
+    uint32_t v;
+    trawl_iso_record_make(mask, 0, 0xFFFFFFFF, NULL, 0);
+    trawl_iso_record_make(pattern, 0, 0x641, NULL, 0);
+    trawl_iso_record_make(flow, 0, 0x241, NULL, 0);
+    trawl_iso_record_make(message, 0, 0x241, (const uint8_t *)"ten bytes.", 10);
+    must(trawl_connect(box, sizeof box, 1, TRAWL_ISO15765, 0, 500000, &v) == 0 && v == 6, "connect");
+    must(trawl_start_flow_filter(box, sizeof box, 6, 3, mask, sizeof mask, pattern, sizeof pattern, flow, sizeof flow, &v) == 0, "filter");
+    must(trawl_write(box, sizeof box, 6, 1, message, sizeof message, &v) == 0 && v == 1, "message");
+}
+
+/* one turn of wire and loop hands this frame over */
+static void hands(uint32_t id) {
+    uint32_t was = handed[1];
+    wire(), step();
+    must(handed[1] == was + 1 && last[1] == id, "the channels take turns");
 }
 
 int main(void) {
@@ -119,6 +147,14 @@ int main(void) {
     trawl_connect(box, sizeof box, 1, TRAWL_CAN, 0, 500000, &channel);
     must(trawl_sent(box, sizeof box, channel) == TRAWL_ERR_FAILED, "a late sent");
     wire(), step(), must(handed[1] == 6 && trawl_valid(box, sizeof box), "and the loop goes on");
+
+    /* both channels of the line have something to send; the partner's go-on comes with the sent that it answers, and counts */
+    wire(), step();
+    queue_one(channel, 0x706), queue_one(channel, 0x707), converse();
+    hands(0x241);
+    partner = "\x30\0\0", hands(0x706);
+    hands(0x241), hands(0x707);
+    must(trawl_read(box, sizeof box, 6, 1, record, sizeof record, &number) == 0 && trawl_record_tx_done(record) == 1, "the message is sent");
     printf("the header's loop: %lu looks\n", held);
     return 0;
 }

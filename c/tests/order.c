@@ -7,7 +7,7 @@
 #include "../../include/trawlpepper.h"
 #include "support.h"
 
-enum { NARROW = 1, WIDE = 2, BOTH = 3, CLOSED = 4 }; /* the four channels */
+enum { NARROW = 1, WIDE = 2, BOTH = 3, CLOSED = 4, TALKS = 5, WIDE_TALKS = 6, SHUT = 8, NONE = 9 }; /* channels, and a number that is none */
 
 static uint8_t box[TRAWL_MEMORY], broken[TRAWL_MEMORY], before[TRAWL_MEMORY];
 static uint32_t number;
@@ -61,6 +61,9 @@ static void open_all(void) {
     GIVES(0x00, trawl_connect(BOX, 0, 5, 0, 500000, &number));
     GIVES(0x00, trawl_connect(BOX, 1, 5, 0x100, 250000, &number));
     GIVES(0x00, trawl_connect(BOX, 2, 5, 0x900, 250000, &number));
+    GIVES(0x00, trawl_connect(BOX, 0, 6, 0, 250000, &number));
+    must(number == TALKS, "the number of an ISO 15765 channel");
+    GIVES(0x00, trawl_connect(BOX, 1, 6, 0x100, 500000, &number));
     memcpy(broken, box, sizeof box);
     broken[4] = 2; /* a mark that is neither 0 nor 1 */
     must(!trawl_valid(BROKEN) && !trawl_valid(SHORT) && trawl_valid(BOX), "valid");
@@ -71,9 +74,10 @@ static void lines(void) {
     GIVES(0x1A, trawl_power_on(SHORT));
     GIVES(0x1A, trawl_close(BROKEN));
     GIVES(0x1A, trawl_close(SHORT));
-    GIVES(0x1A, trawl_connect(BROKEN, 9, 6, 1, 1, &number));
-    GIVES(0x1A, trawl_connect(SHORT, 9, 6, 1, 1, &number));
-    GIVES(0x03, trawl_connect(BOX, 9, 6, 1, 1, &number));
+    GIVES(0x1A, trawl_connect(BROKEN, 9, 7, 1, 1, &number));
+    GIVES(0x1A, trawl_connect(SHORT, 9, 7, 1, 1, &number));
+    GIVES(0x03, trawl_connect(BOX, 9, 7, 1, 1, &number));
+    GIVES(0x03, trawl_connect(BOX, 9, 0x106, 1, 1, &number));
     GIVES(0x06, trawl_connect(BOX, 9, 5, 0x901, 1, &number));
     GIVES(0x19, trawl_connect(BOX, 9, 5, 0x900, 500001, &number));
     GIVES(0x19, trawl_connect(BOX, 0, 5, 0x900, 500001, &number)); /* before 0x14 */
@@ -82,6 +86,10 @@ static void lines(void) {
     GIVES(0x19, trawl_connect(BOX, 3, 5, 0x900, 125000, &number));
     GIVES(0x13, trawl_connect(BOX, 4, 5, 0x900, 500000, &number));
     NOTES(NARROW, 0x14, trawl_connect(BOX, 0, 5, 0x900, 500000, &number));
+    GIVES(0x06, trawl_connect(BOX, 9, 6, 0x901, 1, &number));
+    GIVES(0x19, trawl_connect(BOX, 9, 6, 0x900, 125000, &number));
+    GIVES(0x13, trawl_connect(BOX, 4, 6, 0x900, 500000, &number));
+    NOTES(TALKS, 0x14, trawl_connect(BOX, 0, 6, 0x900, 500000, &number)); /* each channel of a line for itself */
     GIVES(0x1A, trawl_advance(BROKEN, 1000001));
     GIVES(0x0B, trawl_advance(BOX, 1000001));
     GIVES(0x00, trawl_advance(BOX, 1000000));
@@ -102,8 +110,8 @@ static void filters(void) {
     memcpy(bits, good, 36), bits[8] = 1;
     memcpy(thirteen, good, 36), thirteen[16] = 13;
     memcpy(none, good, 36), none[16] = 0;
-    GIVES(0x1A, trawl_start_filter(BROKEN, 5, 3, other, 35, other, 35, &number));
-    GIVES(0x02, trawl_start_filter(BOX, 5, 3, other, 35, other, 35, &number));
+    GIVES(0x1A, trawl_start_filter(BROKEN, NONE, 3, other, 35, other, 35, &number));
+    GIVES(0x02, trawl_start_filter(BOX, NONE, 3, other, 35, other, 35, &number));
     GIVES(0x02, trawl_start_filter(BOX, 0, 3, other, 35, other, 35, &number));
     GIVES(0x02, trawl_start_filter(BOX, CLOSED, 3, other, 35, other, 35, &number));
     NOTES(NARROW, 0x04, trawl_start_filter(BOX, NARROW, 3, other, 35, R(other), &number));
@@ -125,8 +133,8 @@ static void filters(void) {
     NOTES(NARROW, 0x0A, trawl_start_filter(BOX, NARROW, 1, R(good), R(bits), &number)); /* before 0x0C */
     NOTES(NARROW, 0x0C, trawl_start_filter(BOX, NARROW, 1, R(good), R(good), &number));
     NOTES(BOTH, 0x00, trawl_start_filter(BOX, BOTH, 1, R(wide), R(wide), &number)); /* each channel has ten of its own */
-    GIVES(0x1A, trawl_stop_filter(BROKEN, 5, 11));
-    GIVES(0x02, trawl_stop_filter(BOX, 5, 11));
+    GIVES(0x1A, trawl_stop_filter(BROKEN, NONE, 11));
+    GIVES(0x02, trawl_stop_filter(BOX, NONE, 11));
     NOTES(NARROW, 0x16, trawl_stop_filter(BOX, NARROW, 11));
     NOTES(NARROW, 0x16, trawl_stop_filter(BOX, NARROW, 0));
     NOTES(WIDE, 0x16, trawl_stop_filter(BOX, WIDE, 1));
@@ -144,7 +152,7 @@ static void sending(void) {
     memcpy(three, good, 36), three[16] = 3;
     for (size_t i = 0; i < 17; i++) memcpy(many + 36 * i, good, 36);
 
-    GIVES(0x1A, trawl_start_periodic(BROKEN, 5, other, 35, 4, &number));
+    GIVES(0x1A, trawl_start_periodic(BROKEN, NONE, other, 35, 4, &number));
     GIVES(0x02, trawl_start_periodic(BOX, CLOSED, other, 35, 4, &number));
     NOTES(NARROW, 0x04, trawl_start_periodic(BOX, NARROW, other, 35, 4, &number));
     NOTES(NARROW, 0x0B, trawl_start_periodic(BOX, NARROW, R(other), 4, &number));
@@ -159,13 +167,13 @@ static void sending(void) {
     }
     NOTES(NARROW, 0x0A, trawl_start_periodic(BOX, NARROW, R(large), 5, &number)); /* before 0x0C */
     NOTES(NARROW, 0x0C, trawl_start_periodic(BOX, NARROW, R(good), 5, &number));
-    GIVES(0x1A, trawl_stop_periodic(BROKEN, 5, 11));
+    GIVES(0x1A, trawl_stop_periodic(BROKEN, NONE, 11));
     GIVES(0x02, trawl_stop_periodic(BOX, CLOSED, 11));
     NOTES(NARROW, 0x0D, trawl_stop_periodic(BOX, NARROW, 11));
     NOTES(BOTH, 0x0D, trawl_stop_periodic(BOX, BOTH, 1));
     NOTES(NARROW, 0x00, trawl_stop_periodic(BOX, NARROW, 1));
 
-    GIVES(0x1A, trawl_write(BROKEN, 5, 2, other, 36, &number));
+    GIVES(0x1A, trawl_write(BROKEN, NONE, 2, other, 36, &number));
     GIVES(0x02, trawl_write(BOX, CLOSED, 2, other, 36, &number));
     NOTES(WIDE, 0x04, trawl_write(BOX, WIDE, 2, other, 36, &number));
     NOTES(WIDE, 0x04, trawl_write(BOX, WIDE, 0xFFFFFFFF, other, 36, &number));
@@ -179,10 +187,10 @@ static void sending(void) {
     NOTES(NARROW, 0x15, trawl_write(BOX, NARROW, 1, other, 36, &number)); /* a record's own code before 0x11 */
     NOTES(NARROW, 0x0A, trawl_write(BOX, NARROW, 1, large, 36, &number));
 
-    GIVES(0x1A, trawl_sent(BROKEN, 5));
+    GIVES(0x1A, trawl_sent(BROKEN, NONE));
     GIVES(0x02, trawl_sent(BOX, CLOSED));
     NOTES(NARROW, 0x07, trawl_sent(BOX, NARROW));
-    GIVES(0x1A, trawl_take(BROKEN, 5, out, 35));
+    GIVES(0x1A, trawl_take(BROKEN, NONE, out, 35));
     GIVES(0x02, trawl_take(BOX, CLOSED, out, 35));
     NOTES(BOTH, 0x04, trawl_take(BOX, BOTH, out, 35)); /* also where there is no frame */
     NOTES(BOTH, 0x10, trawl_take(BOX, BOTH, R(out)));
@@ -193,7 +201,7 @@ static void sending(void) {
 
 static void reading(void) {
     static uint8_t out[40 * 36];
-    GIVES(0x1A, trawl_read(BROKEN, 5, 2, out, 71, &number));
+    GIVES(0x1A, trawl_read(BROKEN, NONE, 2, out, 71, &number));
     GIVES(0x02, trawl_read(BOX, CLOSED, 2, out, 71, &number));
     NOTES(BOTH, 0x04, trawl_read(BOX, BOTH, 2, out, 71, &number));
     NOTES(BOTH, 0x00, trawl_read(BOX, BOTH, 0, out, 0, &number));
@@ -211,23 +219,164 @@ static void reading(void) {
     NOTES(BOTH, 0x10, trawl_read(BOX, BOTH, 32, R(out), &number));
 }
 
+/* ---- ISO 15765 channels ---- */
+
+/* the three records of a filter, a good one but for what is told */
+static uint8_t mask[536], pattern[536], flow[536], spare[536];
+
+static uint32_t talk(uint8_t *m, size_t length, uint32_t channel, uint32_t type, size_t a, size_t b, size_t c) {
+    return trawl_start_flow_filter(m, length, channel, type, mask, a, pattern, b, flow, c, &number);
+}
+
+static void three(uint32_t wide, uint32_t p, uint32_t f) {
+    trawl_iso_record_make(mask, wide, 0xFFFFFFFF, NULL, 0);
+    trawl_iso_record_make(pattern, wide, p, NULL, 0);
+    trawl_iso_record_make(flow, wide, f, NULL, 0);
+}
+
+/* a filter of type 3 with the three records as they are */
+#define TRY(code) NOTES(TALKS, code, talk(BOX, TALKS, 3, 536, 536, 536))
+
+static void tries(uint32_t code, uint32_t p, uint32_t f) {
+    three(0, p, f);
+    TRY(code);
+}
+
+/* a good one with one byte changed */
+static void spoilt(uint8_t *at, uint8_t byte) {
+    three(0, 0x641, 0x241);
+    *at = byte;
+    TRY(0x0A);
+}
+
+/* a write of one message, with a thing or two wrong */
+#define WRITES(code, wide, identifier, n)                                                                                                 \
+    do {                                                                                                                                  \
+        trawl_iso_record_make(spare, wide, identifier, payload, n);                                                                       \
+        NOTES(TALKS, code, trawl_write(BOX, TALKS, 1, R(spare), &number));                                                                \
+    } while (0)
+
+/* all but its length is wrong, then less and less */
+static void talks(void) {
+    three(1, 0x641, 0x241);
+    mask[0] = pattern[0] = flow[0] = 5;
+    GIVES(0x1A, talk(BROKEN, NONE, 1, 535, 535, 535));
+    GIVES(0x02, talk(BOX, NONE, 1, 535, 535, 535));
+    GIVES(0x02, talk(BOX, SHUT, 1, 535, 535, 535));
+    NOTES(TALKS, 0x04, talk(BOX, TALKS, 1, 535, 536, 536));
+    NOTES(TALKS, 0x04, talk(BOX, TALKS, 1, 536, 535, 536));
+    NOTES(TALKS, 0x04, talk(BOX, TALKS, 1, 536, 536, 535));
+    NOTES(TALKS, 0x04, trawl_start_filter(BOX, TALKS, 3, R(mask), R(pattern), &number)); /* no flow record */
+    for (uint32_t type = 0; type < 3; type++) NOTES(TALKS, 0x16, talk(BOX, TALKS, type, 536, 536, 536));
+    NOTES(TALKS, 0x16, talk(BOX, TALKS, 259, 536, 536, 536));
+    mask[16] = 5; /* a size */
+    TRY(0x15);
+    mask[0] = 6;
+    TRY(0x15);
+    pattern[0] = 6;
+    TRY(0x15);
+    flow[0] = 6;
+    TRY(0x0A);
+    mask[16] = 4;
+    TRY(0x0A); /* wide */
+    spoilt(&flow[16], 3);
+    spoilt(&mask[24], 0xE3);
+    spoilt(&flow[8], 1);
+    tries(0x0A, 0x800, 0x241);
+    tries(0x0A, 0x641, 0x800);
+    tries(0x00, 0x641, 0x241);
+    must(number == 1, "the first conversation");
+    tries(0x18, 0x641, 0x242);
+    tries(0x18, 0x642, 0x641);
+    tries(0x00, 0x642, 0x242);
+    must(number == 2, "the second conversation");
+    tries(0x18, 0x643, 0x242); /* before 0x0C */
+    tries(0x0C, 0x643, 0x243);
+    NOTES(TALKS, 0x16, trawl_stop_filter(BOX, TALKS, 3));
+    NOTES(TALKS, 0x00, trawl_stop_filter(BOX, TALKS, 1));
+    NOTES(TALKS, 0x16, trawl_stop_filter(BOX, TALKS, 1));
+    three(1, 0x1FFFFFFF, 0x18DA10F1);
+    NOTES(WIDE_TALKS, 0x00, talk(BOX, WIDE_TALKS, 3, 536, 536, 536));
+    trawl_record_make(spare, 0, 0, NULL, 0);
+    NOTES(BOTH, 0x16, trawl_start_flow_filter(BOX, BOTH, 3, spare, 36, spare, 36, NULL, 0, &number)); /* on a raw channel the flow plays no part */
+    NOTES(BOTH, 0x00, trawl_start_flow_filter(BOX, BOTH, 1, spare, 36, spare, 36, NULL, 0, &number));
+    NOTES(BOTH, 0x00, trawl_stop_filter(BOX, BOTH, 2));
+}
+
+static void messages(void) {
+    static uint8_t many[5 * 536], payload[508];
+    uint8_t *last_one = many + 4 * 536;
+    for (size_t i = 0; i < 5; i++) trawl_iso_record_make(many + 536 * i, 0, 0x242, payload, 508 - 100 * i);
+    GIVES(0x02, trawl_start_periodic(BOX, SHUT, many, 535, 4, &number));
+    NOTES(TALKS, 0x04, trawl_start_periodic(BOX, TALKS, many, 535, 4, &number));
+    NOTES(TALKS, 0x01, trawl_start_periodic(BOX, TALKS, many, 536, 4, &number)); /* whatever the interval */
+    NOTES(TALKS, 0x0D, trawl_stop_periodic(BOX, TALKS, 1));
+    NOTES(TALKS, 0x00, trawl_clear(BOX, TALKS, 3));
+
+    GIVES(0x1A, trawl_write(BROKEN, NONE, 2, many, 1071, &number));
+    GIVES(0x02, trawl_write(BOX, SHUT, 2, many, 1071, &number));
+    NOTES(TALKS, 0x04, trawl_write(BOX, TALKS, 2, many, 1071, &number));
+    trawl_iso_record_make(spare, 0, 0x800, payload, 509), spare[0] = 5;
+    NOTES(TALKS, 0x15, trawl_write(BOX, TALKS, 1, R(spare), &number));
+    spare[0] = 6;
+    NOTES(TALKS, 0x0A, trawl_write(BOX, TALKS, 1, R(spare), &number)); /* its size */
+    WRITES(0x0A, 0, 0x242, 0);
+    WRITES(0x0A, 0, 0x800, 1);
+    WRITES(0x0A, 1, 0x242, 1);
+    WRITES(0x17, 0, 0x241, 8);
+    NOTES(TALKS, 0x11, trawl_write(BOX, TALKS, 5, R(many), &number));
+    must(number == 4, "four queued");
+    NOTES(TALKS, 0x17, trawl_write(BOX, TALKS, 1, R(spare), &number)); /* before 0x11 */
+    NOTES(TALKS, 0x11, trawl_write(BOX, TALKS, 1, last_one, 536, &number));
+
+    NOTES(TALKS, 0x07, trawl_sent(BOX, TALKS));
+    GIVES(0x02, trawl_take(BOX, SHUT, spare, 535));
+    NOTES(WIDE_TALKS, 0x04, trawl_take(BOX, WIDE_TALKS, spare, 535));
+    NOTES(WIDE_TALKS, 0x10, trawl_take(BOX, WIDE_TALKS, R(spare)));
+    NOTES(TALKS, 0x00, trawl_take(BOX, TALKS, R(spare)));
+    NOTES(TALKS, 0x00, trawl_sent(BOX, TALKS));
+    NOTES(TALKS, 0x10, trawl_take(BOX, TALKS, R(spare))); /* the flow frame is awaited */
+    NOTES(TALKS, 0x07, trawl_sent(BOX, TALKS));
+}
+
+static void told(void) {
+    static uint8_t out[10 * 536];
+    GIVES(0x02, trawl_read(BOX, SHUT, 2, out, 1071, &number));
+    NOTES(TALKS, 0x04, trawl_read(BOX, TALKS, 2, out, 1071, &number));
+    NOTES(TALKS, 0x00, trawl_read(BOX, TALKS, 0, out, 0, &number));
+    NOTES(TALKS, 0x10, trawl_read(BOX, TALKS, 2, out, 1072, &number));
+    for (int i = 0; i < 3; i++) GIVES(0x00, trawl_frame(BOX, 1, 1, 0x1FFFFFFF, (const uint8_t *)"\x01\x55", 2));
+    NOTES(WIDE_TALKS, 0x00, trawl_read(BOX, WIDE_TALKS, 1, out, 536, &number));
+    NOTES(WIDE_TALKS, 0x09, trawl_read(BOX, WIDE_TALKS, 3, R(out), &number));
+    must(number == 2, "two read");
+    for (int i = 0; i < 9; i++) GIVES(0x00, trawl_frame(BOX, 1, 1, 0x1FFFFFFF, (const uint8_t *)"\x01\x55", 2));
+    NOTES(WIDE_TALKS, 0x12, trawl_read(BOX, WIDE_TALKS, 8, R(out), &number));
+    must(number == 8, "all read, and the loss told");
+    NOTES(WIDE_TALKS, 0x10, trawl_read(BOX, WIDE_TALKS, 1, R(out), &number));
+    NOTES(TALKS, 0x01, trawl_get(BOX, TALKS, 0x1E, &number)); /* J2534-1's block size: not built */
+    NOTES(TALKS, 0x05, trawl_set(BOX, TALKS, 1, 125000));
+    NOTES(TALKS, 0x0F, trawl_clear(BOX, TALKS, 5));
+    GIVES(0x00, trawl_disconnect(BOX, WIDE_TALKS));
+    GIVES(0x02, trawl_disconnect(BOX, WIDE_TALKS));
+}
+
 /* refused before any pair is done, or at the first: nothing but the last code changes, and the lists stay */
 static void lists(void) {
     static const struct trawl_pair seventeen[17] = {{2, 9}, {1, 9}, {3, 1}}, value[3] = {{1, 9}, {2, 9}, {3, 1}}, old[1] = {{1, 125000}};
     static struct trawl_pair out[17];
     memcpy(out, seventeen, sizeof out);
-    GIVES(0x1A, trawl_set_list(BROKEN, 5, seventeen, 17));
-    GIVES(0x1A, trawl_set_list(SHORT, 5, seventeen, 17));
-    GIVES(0x02, trawl_set_list(BOX, 5, seventeen, 17));
+    GIVES(0x1A, trawl_set_list(BROKEN, NONE, seventeen, 17));
+    GIVES(0x1A, trawl_set_list(SHORT, NONE, seventeen, 17));
+    GIVES(0x02, trawl_set_list(BOX, NONE, seventeen, 17));
     GIVES(0x02, trawl_set_list(BOX, CLOSED, seventeen, 17));
     NOTES(BOTH, 0x04, trawl_set_list(BOX, BOTH, seventeen, 17));
     NOTES(BOTH, 0x01, trawl_set_list(BOX, BOTH, seventeen, 16));
     NOTES(BOTH, 0x05, trawl_set_list(BOX, BOTH, value, 3));
     NOTES(BOTH, 0x05, trawl_set_list(BOX, BOTH, old, 1));
     NOTES(BOTH, 0x00, trawl_set_list(BOX, BOTH, value, 0));
-    GIVES(0x1A, trawl_get_list(BROKEN, 5, out, 17));
-    GIVES(0x1A, trawl_get_list(SHORT, 5, out, 17));
-    GIVES(0x02, trawl_get_list(BOX, 5, out, 17));
+    GIVES(0x1A, trawl_get_list(BROKEN, NONE, out, 17));
+    GIVES(0x1A, trawl_get_list(SHORT, NONE, out, 17));
+    GIVES(0x02, trawl_get_list(BOX, NONE, out, 17));
     GIVES(0x02, trawl_get_list(BOX, CLOSED, out, 17));
     NOTES(BOTH, 0x04, trawl_get_list(BOX, BOTH, out, 17));
     NOTES(BOTH, 0x01, trawl_get_list(BOX, BOTH, out, 16));
@@ -236,34 +385,34 @@ static void lists(void) {
 }
 
 static void settings(void) {
-    GIVES(0x1A, trawl_get(BROKEN, 5, 2, &number));
-    GIVES(0x02, trawl_get(BOX, 5, 2, &number));
+    GIVES(0x1A, trawl_get(BROKEN, NONE, 2, &number));
+    GIVES(0x02, trawl_get(BOX, NONE, 2, &number));
     NOTES(BOTH, 0x01, trawl_get(BOX, BOTH, 2, &number));
     NOTES(BOTH, 0x00, trawl_get(BOX, BOTH, 1, &number));
     must(number == 250000, "rate");
-    GIVES(0x1A, trawl_set(BROKEN, 5, 2, 9));
-    GIVES(0x02, trawl_set(BOX, 5, 2, 9));
+    GIVES(0x1A, trawl_set(BROKEN, NONE, 2, 9));
+    GIVES(0x02, trawl_set(BOX, NONE, 2, 9));
     NOTES(BOTH, 0x01, trawl_set(BOX, BOTH, 2, 9));
     NOTES(BOTH, 0x05, trawl_set(BOX, BOTH, 1, 9));
     NOTES(BOTH, 0x05, trawl_set(BOX, BOTH, 1, 125000));
     NOTES(BOTH, 0x05, trawl_set(BOX, BOTH, 3, 2));
     NOTES(BOTH, 0x00, trawl_set(BOX, BOTH, 3, 1));
     lists();
-    GIVES(0x1A, trawl_clear(BROKEN, 5, 5));
-    GIVES(0x02, trawl_clear(BOX, 5, 5));
+    GIVES(0x1A, trawl_clear(BROKEN, NONE, 5));
+    GIVES(0x02, trawl_clear(BOX, NONE, 5));
     NOTES(BOTH, 0x0F, trawl_clear(BOX, BOTH, 0));
     for (uint32_t kind = 5; kind < 40; kind++) NOTES(BOTH, 0x0F, trawl_clear(BOX, BOTH, kind)); /* J2534-1's own numbers too */
     for (uint32_t kind = 1; kind < 5; kind++) NOTES(BOTH, 0x00, trawl_clear(BOX, BOTH, kind));
     for (uint32_t ioctl = 7; ioctl < 11; ioctl++) NOTES(BOTH, 0x00, trawl_clear(BOX, BOTH, trawl_clear_kind(ioctl)));
-    GIVES(0x1A, trawl_last_error(BROKEN, 5, &number));
-    GIVES(0x1A, trawl_last_error(SHORT, 5, &number));
-    GIVES(0x02, trawl_last_error(BOX, 5, &number));
+    GIVES(0x1A, trawl_last_error(BROKEN, NONE, &number));
+    GIVES(0x1A, trawl_last_error(SHORT, NONE, &number));
+    GIVES(0x02, trawl_last_error(BOX, NONE, &number));
     GIVES(0x02, trawl_last_error(BOX, CLOSED, &number));
     GIVES(0x02, trawl_last_error(BOX, 257, &number));
     NOTES(BOTH, 0x0F, trawl_clear(BOX, BOTH, 9));
     NOTES(BOTH, 0x00, trawl_last_error(BOX, BOTH, &number));
     must(number == 0x0F, "the last code");
-    GIVES(0x1A, trawl_disconnect(BROKEN, 5));
+    GIVES(0x1A, trawl_disconnect(BROKEN, NONE));
     GIVES(0x02, trawl_disconnect(BOX, CLOSED));
     GIVES(0x00, trawl_disconnect(BOX, BOTH));
     GIVES(0x02, trawl_disconnect(BOX, BOTH));
@@ -277,6 +426,9 @@ int main(void) {
     filters();
     sending();
     reading();
+    talks();
+    messages();
+    told();
     settings();
     printf("codes in the header's order: %lu looks\n", held);
     return 0;

@@ -8,9 +8,9 @@
 #include "../twin/replay.h"
 #include "support.h"
 
-enum { LONGEST = 32768, LEAST = TRAWL_EVENT_ROOM, WHOLE = 1 << 20 };
+enum { LONGEST = 32768, LEAST = TRAWL_EVENT_ROOM, WHOLE = TWIN_REPLAY_ROOM(LONGEST) };
 
-static uint8_t recording[LONGEST + 8], core_room[GUARD + WHOLE + GUARD], twin[WHOLE], box[TRAWL_MEMORY], before[TRAWL_MEMORY];
+static uint8_t recording[LONGEST + 8], core_room[GUARD + WHOLE + LEAST + GUARD], twin[WHOLE], box[TRAWL_MEMORY], before[TRAWL_MEMORY];
 static uint8_t *const core = core_room + GUARD;
 static unsigned long replays, pieces, marked, events, output;
 
@@ -37,8 +37,18 @@ static uint8_t *raw(uint8_t *p, lent *from, size_t n) {
     return p + n;
 }
 
+/* a start filter: of channels 5 to 8 with its flow record, of the others without */
+static uint8_t *put_filter(uint8_t *p, event *e, size_t size) {
+    int flow = size == TRAWL_ISO_RECORD;
+    if (flow != (e->kind == START_FLOW) || e->first.n < size || e->second.n < size || (flow && e->third.n < size)) return NULL;
+    p = raw(raw(put(put(put(p, START_FILTER), e->a), e->b), &e->first, size), &e->second, size);
+    return flow ? raw(p, &e->third, size) : p;
+}
+
 /* an event in bytes; 0 where it lends other lengths than a recording can say, or is a call that recordings don't hold */
 static uint8_t *put_event(uint8_t *p, event *e) {
+    size_t size = record_of(e->a);
+    if (e->kind == START_FLOW || e->kind == START_FILTER) return put_filter(p, e, size);
     if (e->kind > SET) return NULL;
     p = put(p, (uint32_t)e->kind);
     if (e->kind == CLOSE) return p;
@@ -46,9 +56,8 @@ static uint8_t *put_event(uint8_t *p, event *e) {
     switch (e->kind) {
     case CONNECT: return put(put(put(p, e->b), e->c), e->d);
     case FRAME: p = put(put(put(p, e->b), e->c), (uint32_t)e->first.n); return raw(p, &e->first, e->first.n);
-    case START_FILTER: return e->first.n < 36 || e->second.n < 36 ? NULL : raw(raw(put(p, e->b), &e->first, 36), &e->second, 36);
-    case START_PERIODIC: return e->first.n < 36 ? NULL : put(raw(p, &e->first, 36), e->b);
-    case WRITE: return e->b > 64 || e->first.n < 36 * e->b ? NULL : raw(put(p, e->b), &e->first, 36 * e->b);
+    case START_PERIODIC: return e->first.n < size ? NULL : put(raw(p, &e->first, size), e->b);
+    case WRITE: return e->b > 64 || e->first.n < size * e->b ? NULL : raw(put(p, e->b), &e->first, size * e->b);
     case READ: return e->b > 64 ? NULL : put(p, e->b);
     case STOP_FILTER: case STOP_PERIODIC: case CLEAR: case GET: return put(p, e->b);
     case SET: return put(put(p, e->b), e->c);
@@ -62,10 +71,10 @@ static size_t mark(uint32_t edition) { return (size_t)(put(put(recording, 0), ed
 static size_t some_recording(size_t most, int damage) {
     static event e;
     size_t n = 0;
-    uint8_t one[4096], *end;
+    uint8_t one[2 * ROOM], *end;
     if (chance(50)) n = mark(2), marked++;
-    for (uint32_t line = 0; line < 4 && chance(90); line++) {
-        end = put(put(put(put(put(recording + n, CONNECT), line), 5), line * 0x100 & 0x900), 500000);
+    for (uint32_t k = 0; k < CHANNELS && chance(90); k++) {
+        end = put(put(put(put(put(recording + n, CONNECT), k % 4), k < 4 ? 5 : 6), k * 0x100 & 0x900), 500000);
         n = (size_t)(end - recording), events++;
     }
     for (;;) {
@@ -133,7 +142,7 @@ static void in_pieces(size_t n, size_t m, size_t room) {
 /* both replay the first n bytes: the core in pieces of the least size, of some other and of one that takes all */
 static size_t both(size_t n) {
     size_t m = 77, at = 0, length;
-    if (twin_replay(recording, n, twin, sizeof twin, &m)) differs("no room for the twin's whole replay", n);
+    if (twin_replay(recording, n, twin, sizeof twin, &m, NULL)) differs("no room for the twin's whole replay", n);
     in_pieces(n, m, LEAST);
     in_pieces(n, m, LEAST + below(3 * LEAST));
     in_pieces(n, m, m + LEAST);
@@ -188,7 +197,7 @@ int main(int argc, char **argv) {
     if (seed == 0) seed = 1;
     if (rounds == 0) rounds = 1;
     for (uint32_t r = 0; r < 400 * rounds; r++) {
-        n = some_recording(chance(10) ? LONGEST : 40 + below(4000), (int)(r % 4) * 5);
+        n = some_recording(chance(10) ? LONGEST : 80 + below(12000), (int)(r % 4) * 5);
         both(n);
         both(below((uint32_t)n + 1)); /* cut short */
         for (uint32_t k = 1 + below(3); k > 0; k--) recording[below((uint32_t)n)] = (uint8_t)any();

@@ -52,7 +52,7 @@ static void SIDE(went_wrong)(void) {
     CODE(0x0A, CALL(frame)(BOX, 0, 0, 0x800, NULL, 0));
     CODE(0x0B, CALL(advance)(BOX, 2000000));
     GIVES(0x19, 0, CALL(connect)(BOX, 0, 5, 0, 1, &v));
-    GIVES(0x03, 0, CALL(connect)(BOX, 0, 6, 0, 500000, &v));
+    GIVES(0x03, 0, CALL(connect)(BOX, 0, 7, 0, 500000, &v));
     GIVES(0x06, 0, CALL(connect)(BOX, 0, 5, 1, 500000, &v));
     GIVES(0x13, 0, CALL(connect)(BOX, 4, 5, 0, 500000, &v));
     GIVES(0x02, 0, CALL(read)(BOX, 2, 1, LEND(record), &v));

@@ -45,11 +45,23 @@ void put_pair(lent *b, size_t i, uint32_t parameter, uint32_t value) {
 
 /* ---- the memory ---- */
 
-enum { CLOCK = 4, REGION = (TRAWL_MEMORY - CLOCK) / 4 };
+enum { CLOCK = 4, LINES = 4, RAW_REGION = 2499, ISO_REGIONS = CLOCK + LINES * RAW_REGION, ISO_REGION = 8064 };
 
-size_t region_of(uint32_t channel) { return CLOCK + (channel - 1) * REGION; }
+typedef char regions_fill_the_memory[ISO_REGIONS + LINES * ISO_REGION == TRAWL_MEMORY ? 1 : -1];
 
-size_t last_of(uint32_t channel) { return region_of(channel) + REGION - 1; }
+int is_iso(uint32_t channel) { return channel > LINES && channel <= CHANNELS; }
+
+int is_channel(uint32_t channel) { return channel >= 1 && channel <= CHANNELS; }
+
+size_t record_of(uint32_t channel) { return is_iso(channel) ? TRAWL_ISO_RECORD : TRAWL_RECORD; }
+
+size_t region_size(uint32_t channel) { return is_iso(channel) ? ISO_REGION : RAW_REGION; }
+
+size_t region_of(uint32_t channel) {
+    return is_iso(channel) ? ISO_REGIONS + (channel - LINES - 1) * ISO_REGION : CLOCK + (channel - 1) * RAW_REGION;
+}
+
+size_t last_of(uint32_t channel) { return region_of(channel) + region_size(channel) - 1; }
 
 /* ---- records ---- */
 
@@ -57,10 +69,10 @@ static void word(uint8_t *p, uint32_t v) {
     for (int i = 0; i < 4; i++) p[i] = (uint8_t)(v >> 8 * i);
 }
 
-void record_at(uint8_t *p, uint32_t flags, uint32_t identifier, uint32_t n) {
-    word(p, 5), word(p + 4, any()), word(p + 8, flags), word(p + 12, any()), word(p + 16, 4 + n), word(p + 20, any());
+void record_at(uint8_t *p, uint32_t channel, uint32_t flags, uint32_t identifier, uint32_t n) {
+    word(p, is_iso(channel) ? 6 : 5), word(p + 4, any()), word(p + 8, flags), word(p + 12, any()), word(p + 16, 4 + n), word(p + 20, any());
     for (int i = 0; i < 4; i++) p[24 + i] = (uint8_t)(identifier >> (24 - 8 * i));
-    for (int i = 28; i < 36; i++) p[i] = (uint8_t)below(3);
+    for (size_t i = 28; i < record_of(channel); i++) p[i] = (uint8_t)below(3);
 }
 
 static uint32_t some_flags(void) { return ONE_OF(0, 0, 0, 0x100, 0x100, 0x1FF, 0x40, 0x80000100u); }
@@ -70,24 +82,36 @@ static uint32_t some_id(uint32_t flags) {
     return ONE_OF(0, 0x7E8, 0x7E9, 0x7DF, 0x7FF);
 }
 
-static void some_message(uint8_t *p, int damage) {
+static uint32_t some_size(uint32_t channel) { return is_iso(channel) ? ONE_OF(1, 2, 7, 8, 13, 14, 20, 100, 508) : below(9); }
+
+static void some_message(uint8_t *p, uint32_t channel, int damage) {
     uint32_t flags = some_flags();
-    record_at(p, flags, some_id(flags), below(9));
-    if (chance((uint32_t)damage)) word(p + ONE_OF(0, 8, 16, 24), ONE_OF(0, 1, 3, 4, 5, 6, 12, 13, 0x100, 0x800, 0xFF, 0xFFFFFFFF, any()));
+    record_at(p, channel, flags, some_id(flags), some_size(channel));
+    if (chance((uint32_t)damage))
+        word(p + ONE_OF(0, 8, 16, 24), ONE_OF(0, 1, 3, 4, 5, 6, 12, 13, 512, 513, 0x100, 0x800, 0xFF, 0xFFFFFFFF, any()));
 }
 
 /* a filter's mask and pattern: like a message, but of any size 1 to 12 and with few different bytes, so that frames match */
 static void some_pair(uint8_t *mask, uint8_t *pattern, int damage) {
     uint32_t flags = ONE_OF(0, 0, 0, 0x100, 0x100, 0x140), size = 1 + below(12), id = some_id(flags);
-    record_at(mask, flags, ONE_OF(0, 0, 0x700, 0x7FF, 0xFFFFFFFF, 0x1FFFFFFF), 0);
-    record_at(pattern, flags, id, 0);
+    record_at(mask, 1, flags, ONE_OF(0, 0, 0x700, 0x7FF, 0xFFFFFFFF, 0x1FFFFFFF), 0);
+    record_at(pattern, 1, flags, id, 0);
     word(mask + 16, size), word(pattern + 16, size);
     for (int i = 24; i < 36; i++) {
         if (i >= 28) mask[i] = (uint8_t)ONE_OF(0, 0, 0xFF, 1), pattern[i] = (uint8_t)below(3);
         if (chance(90)) pattern[i] &= mask[i];
     }
-    if (chance((uint32_t)damage)) some_message(chance(50) ? mask : pattern, 100);
+    if (chance((uint32_t)damage)) some_message(chance(50) ? mask : pattern, 1, 100);
     if (chance((uint32_t)damage)) word((chance(50) ? mask : pattern) + 16, below(15));
+}
+
+/* a conversation's three records */
+static void some_three(uint8_t *mask, uint8_t *pattern, uint8_t *flow, int damage) {
+    uint32_t flags = ONE_OF(0, 0, 0, 0x100, 0x100, 0x140);
+    record_at(mask, 5, flags, 0xFFFFFFFF, 0);
+    record_at(pattern, 5, flags, some_id(flags), 0);
+    record_at(flow, 5, flags, some_id(flags), 0);
+    if (chance((uint32_t)damage)) some_message(chance(50) ? mask : chance(50) ? pattern : flow, 5, 100);
 }
 
 /* ---- events ---- */
@@ -95,7 +119,7 @@ static void some_pair(uint8_t *mask, uint8_t *pattern, int damage) {
 const char *name_of(int kind) {
     static const char *const names[] = {"-", "connect", "disconnect", "close", "advance", "frame", "start filter", "stop filter",
                                         "start periodic", "stop periodic", "write", "read", "take", "sent", "clear", "get", "set",
-                                        "set list", "get list", "last error"};
+                                        "set list", "get list", "last error", "start flow filter"};
     return names[kind];
 }
 
@@ -109,20 +133,45 @@ static uint32_t some_length(uint32_t good, int damage) {
     return below(good + 2);
 }
 
+/* data that may mean something to a conversation, or just few different bytes */
+static void some_data(uint8_t *p, size_t n) {
+    for (size_t i = 0; i < n; i++) p[i] = (uint8_t)below(3);
+    if (n == 0 || chance(50)) return;
+    p[0] = (uint8_t)ONE_OF(0x02, 0x07, 0x10, 0x10, 0x10, 0x12, 0x21, 0x21, 0x22, 0x23, 0x30, 0x30, 0x31, 0x32, 0x40);
+    if (p[0] == 0x10 && n > 1) p[1] = (uint8_t)ONE_OF(7, 8, 13, 14, 20, 100, 255);
+}
+
+static void some_filter(event *e, int damage) {
+    size_t size = record_of(e->a);
+    uint8_t *p = bytes(&e->first), *q = bytes(&e->second), *f = bytes(&e->third);
+    e->b = off(is_iso(e->a) ? 3 : 1 + below(2), damage);
+    lend(&e->first, some_length((uint32_t)size, damage / 2)), lend(&e->second, some_length((uint32_t)size, damage / 2));
+    if (e->kind == START_FLOW) lend(&e->third, some_length((uint32_t)size, damage / 2));
+    if (e->first.n < size || e->second.n < size) return;
+    if (!is_iso(e->a)) some_pair(p, q, damage);
+    else if (e->third.n >= size) some_three(p, q, f, damage);
+}
+
+void connect_event(event *e, uint32_t line, uint32_t protocol, uint32_t flags, uint32_t rate) {
+    memset(e, 0, sizeof *e);
+    lend(&e->first, 0), lend(&e->second, 0), lend(&e->third, 0);
+    e->kind = CONNECT, e->a = line, e->b = protocol, e->c = flags, e->d = rate;
+}
+
 void random_event(event *e, int damage) {
     static const int often[] = {CONNECT,    DISCONNECT,     ADVANCE, ADVANCE, FRAME, FRAME, FRAME, FRAME, FRAME, FRAME, FRAME, FRAME, START_FILTER,
                                 STOP_FILTER, START_PERIODIC, STOP_PERIODIC, WRITE, WRITE, READ,  READ,  TAKE,  TAKE,  SENT,  SENT,  CLEAR,
                                 GET,        SET,            SET,     START_FILTER, START_PERIODIC, CONNECT, LAST_ERROR, SET_LIST,
                                 GET_LIST};
-    uint32_t channel = off(1 + below(4), damage / 4), flags, n;
-    memset(e, 0, sizeof *e);
+    uint32_t channel = off(chance(60) ? 1 + below(4) : 5 + below(4), damage / 4), flags, n, size = (uint32_t)record_of(channel);
+    connect_event(e, 0, 0, 0, 0);
     e->kind = chance(1) ? (chance(10) ? CLOSE : DISCONNECT) : often[below(sizeof often / sizeof *often)];
     if (e->kind == DISCONNECT && chance(80)) e->kind = FRAME;
-    lend(&e->first, 0), lend(&e->second, 0);
+    if (e->kind == START_FILTER && chance(is_iso(channel) ? 90 : 20)) e->kind = START_FLOW;
     e->a = channel;
     switch (e->kind) {
     case CONNECT:
-        e->a = off(below(4), damage), e->b = off(5, damage), e->c = off(ONE_OF(0, 0x100, 0x800, 0x900), damage);
+        e->a = off(below(4), damage), e->b = off(chance(60) ? 5 : 6, damage), e->c = off(ONE_OF(0, 0x100, 0x800, 0x900), damage);
         e->d = off(ONE_OF(125000, 250000, 250000, 500000, 500000), damage);
         break;
     case ADVANCE:
@@ -131,13 +180,12 @@ void random_event(event *e, int damage) {
     case FRAME:
         flags = some_flags();
         e->a = off(below(4), damage / 4), e->b = off((flags & 0x100) != 0, damage / 4), e->c = off(some_id(flags), damage / 4);
-        lend(&e->first, chance((uint32_t)damage / 4) ? below(65) : below(9));
-        for (size_t i = 0; i < e->first.n; i++) bytes(&e->first)[i] = (uint8_t)below(3);
+        lend(&e->first, chance((uint32_t)damage / 4) ? below(65) : chance(40) ? 8 : below(9));
+        some_data(bytes(&e->first), e->first.n);
         break;
     case START_FILTER:
-        e->b = off(1 + below(2), damage);
-        lend(&e->first, some_length(36, damage / 2)), lend(&e->second, some_length(36, damage / 2));
-        if (e->first.n >= 36 && e->second.n >= 36) some_pair(bytes(&e->first), bytes(&e->second), damage);
+    case START_FLOW:
+        some_filter(e, damage);
         break;
     case STOP_FILTER:
     case STOP_PERIODIC:
@@ -145,22 +193,22 @@ void random_event(event *e, int damage) {
         break;
     case START_PERIODIC:
         e->b = off(ONE_OF(5, 5, 6, 10, 100, 1000, 65535), damage);
-        lend(&e->first, some_length(36, damage / 2));
-        if (e->first.n >= 36) some_message(bytes(&e->first), damage);
+        lend(&e->first, some_length(size, damage / 2));
+        if (e->first.n >= size) some_message(bytes(&e->first), channel, damage);
         break;
     case WRITE:
-        n = chance(5) ? 16 + below(20) : below(6);
-        lend(&e->first, some_length(36 * n, damage / 2));
-        for (uint32_t i = 0; 36 * (i + 1) <= e->first.n; i++) some_message(bytes(&e->first) + 36 * i, damage / 2);
+        n = chance(5) ? (is_iso(channel) ? 4 + below(5) : 16 + below(20)) : below(6);
+        lend(&e->first, some_length(size * n, damage / 2));
+        for (uint32_t i = 0; size * (i + 1) <= e->first.n; i++) some_message(bytes(&e->first) + size * i, channel, damage / 2);
         e->b = off(n, damage / 4);
         break;
     case READ:
-        n = chance(20) ? below(70) : below(6);
-        lend(&e->first, some_length(36 * n, damage / 2));
+        n = chance(20) ? below(is_iso(channel) ? 10 : 70) : below(6);
+        lend(&e->first, some_length(size * n, damage / 2));
         e->b = off(n, damage / 4);
         break;
     case TAKE:
-        lend(&e->first, some_length(36, damage / 2));
+        lend(&e->first, some_length(size, damage / 2));
         break;
     case CLEAR:
         e->b = off(1 + below(4), damage);
@@ -188,7 +236,7 @@ void random_event(event *e, int damage) {
 /* a call that gives a number writes it whatever its code: it begins as one that no call gives */
 static uint32_t stale(int kind) {
     switch (kind) {
-    case CONNECT: case START_FILTER: case START_PERIODIC: case WRITE: case READ: case GET: case LAST_ERROR: return 0xBADC0DEu;
+    case CONNECT: case START_FILTER: case START_FLOW: case START_PERIODIC: case WRITE: case READ: case GET: case LAST_ERROR: return 0xBADC0DEu;
     default: return 0;
     }
 }
@@ -207,8 +255,8 @@ static uint32_t stale(int kind) {
                                                                                                                                           \
     reply on_##side(uint8_t *m, size_t length, event *e) {                                                                                \
         reply r = {0, stale(e->kind)};                                                                                                    \
-        uint8_t *p = bytes(&e->first), *q = bytes(&e->second);                                                                            \
-        size_t pn = e->first.n, qn = e->second.n;                                                                                         \
+        uint8_t *p = bytes(&e->first), *q = bytes(&e->second), *f = bytes(&e->third);                                                     \
+        size_t pn = e->first.n, qn = e->second.n, fn = e->third.n;                                                                        \
         switch (e->kind) {                                                                                                                \
         case CONNECT: r.code = CALL(connect)(m, length, e->a, e->b, e->c, e->d, &r.value); break;                                         \
         case DISCONNECT: r.code = CALL(disconnect)(m, length, e->a); break;                                                               \
@@ -216,6 +264,7 @@ static uint32_t stale(int kind) {
         case ADVANCE: r.code = CALL(advance)(m, length, e->a); break;                                                                     \
         case FRAME: r.code = CALL(frame)(m, length, e->a, e->b, e->c, p, pn); break;                                                      \
         case START_FILTER: r.code = CALL(start_filter)(m, length, e->a, e->b, p, pn, q, qn, &r.value); break;                             \
+        case START_FLOW: r.code = CALL(start_flow_filter)(m, length, e->a, e->b, p, pn, q, qn, f, fn, &r.value); break;                   \
         case STOP_FILTER: r.code = CALL(stop_filter)(m, length, e->a, e->b); break;                                                       \
         case START_PERIODIC: r.code = CALL(start_periodic)(m, length, e->a, p, pn, e->b, &r.value); break;                                \
         case STOP_PERIODIC: r.code = CALL(stop_periodic)(m, length, e->a, e->b); break;                                                   \
@@ -243,8 +292,8 @@ PLAY(twin)
 void fail(const char *what, const event *e, uint64_t turn) {
     fprintf(stderr, "differs: %s, turn %llu", what, (unsigned long long)turn);
     if (e)
-        fprintf(stderr, ", %s(%u, %u, %u, %u), lent %u and %u bytes", name_of(e->kind), (unsigned)e->a, (unsigned)e->b, (unsigned)e->c,
-                (unsigned)e->d, (unsigned)e->first.n, (unsigned)e->second.n);
+        fprintf(stderr, ", %s(%u, %u, %u, %u), lent %u, %u and %u bytes", name_of(e->kind), (unsigned)e->a, (unsigned)e->b, (unsigned)e->c,
+                (unsigned)e->d, (unsigned)e->first.n, (unsigned)e->second.n, (unsigned)e->third.n);
     fprintf(stderr, "\n");
     exit(1);
 }

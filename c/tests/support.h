@@ -10,7 +10,7 @@
 
 /* ---- a lent buffer: exactly n bytes between guards ---- */
 
-enum { GUARD = 16, ROOM = 4096 };
+enum { GUARD = 16, ROOM = 5400 };
 typedef struct {
     uint8_t room[GUARD + ROOM + GUARD];
     size_t n;
@@ -22,12 +22,13 @@ int guarded(const lent *b);   /* the guards are as they were */
 /* ---- events ---- */
 
 enum { CONNECT = 1, DISCONNECT, CLOSE, ADVANCE, FRAME, START_FILTER, STOP_FILTER, START_PERIODIC, STOP_PERIODIC, WRITE, READ, TAKE, SENT,
-       CLEAR, GET, SET, SET_LIST, GET_LIST, LAST_ERROR, KINDS = LAST_ERROR }; /* up to SET by their numbers in recordings, which hold no others */
+       CLEAR, GET, SET, SET_LIST, GET_LIST, LAST_ERROR, START_FLOW, KINDS = START_FLOW };
+/* up to SET by their numbers in recordings, which hold no others, but START_FLOW as START_FILTER of channels 5 to 8 */
 
 typedef struct {
     int kind;
-    uint32_t a, b, c, d; /* the event's numbers, in the scope's order; a is the line or the channel */
-    lent first, second;  /* what it lends: mask, message, records, data, buffer or a list; pattern */
+    uint32_t a, b, c, d;       /* the event's numbers, in the scope's order; a is the line or the channel */
+    lent first, second, third; /* what it lends: mask, message, records, data, buffer or a list; pattern; flow */
 } event;
 
 typedef struct {
@@ -42,15 +43,24 @@ void put_pair(lent *b, size_t i, uint32_t parameter, uint32_t value);
 
 const char *name_of(int kind);
 void random_event(event *e, int damage); /* damage: percent of numbers, records and lengths that are off */
+void connect_event(event *e, uint32_t line, uint32_t protocol, uint32_t flags, uint32_t rate);
 reply on_core(uint8_t *memory, size_t length, event *e);
 reply on_twin(uint8_t *memory, size_t length, event *e);
 
-/* where the bytes of a channel's region begin, and where its last code lies; the channel is 1 to 4 */
+/* ---- channels ---- */
+
+enum { CHANNELS = 8 };
+int is_iso(uint32_t channel);      /* 5 to 8 */
+int is_channel(uint32_t channel);  /* 1 to 8 */
+size_t record_of(uint32_t channel); /* the size of its records; of a channel that is none too */
+
+/* where the bytes of a channel's region begin, how many they are, and where its last code lies; the channel is 1 to 8 */
 size_t region_of(uint32_t channel);
+size_t region_size(uint32_t channel);
 size_t last_of(uint32_t channel);
 
-/* a message record at p: protocol 5, these flags, an identifier and n data bytes */
-void record_at(uint8_t *p, uint32_t flags, uint32_t identifier, uint32_t n);
+/* a message record of a channel at p: these flags, an identifier and n data bytes; what is ignored is noise */
+void record_at(uint8_t *p, uint32_t channel, uint32_t flags, uint32_t identifier, uint32_t n);
 
 /* tells what differs and ends the program with status 1 */
 void fail(const char *what, const event *e, uint64_t turn);

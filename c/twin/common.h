@@ -4,6 +4,7 @@
 
 #include <stddef.h>
 #include <stdint.h>
+#include <string.h>
 
 #include "twin.h"
 
@@ -23,10 +24,15 @@ static inline void put_identifier(uint8_t b[4], uint32_t id) {
     b[0] = (uint8_t)(id >> 24), b[1] = (uint8_t)(id >> 16), b[2] = (uint8_t)(id >> 8), b[3] = (uint8_t)id;
 }
 
+/* eight bytes at a time: most of a memory is zeros */
 static inline int zeros(const void *p, size_t n) {
     const uint8_t *b = p;
-    uint8_t any = 0;
-    for (size_t i = 0; i < n; i++) any |= b[i];
+    uint64_t any = 0, eight;
+    for (; n >= sizeof eight; n -= sizeof eight, b += sizeof eight) {
+        memcpy(&eight, b, sizeof eight);
+        any |= eight;
+    }
+    for (; n > 0; n--) any |= *b++;
     return any == 0;
 }
 

@@ -9,7 +9,7 @@
  *   frames received                            P3.37 to P3.44, the table of frames
  *   the two seconds                            P3.34, P3.45
  *   the queue                                  P3.46 to P3.49
- * How frames reach a channel beside a raw one of its line (P3.50) is in box.c. */
+ * How frames reach a channel beside a raw one of its line (P3.50) is in twin.c. */
 #include "iso.h"
 
 #include <string.h>

@@ -1,4 +1,4 @@
-/* What the twin's replays share: the reader of a recording, the numbers of its answers. */
+/* What the twin's replay is made of: the reader of a recording, the numbers of its answers. */
 #ifndef TWIN_RECORDING_H
 #define TWIN_RECORDING_H
 

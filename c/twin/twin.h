@@ -1,12 +1,13 @@
-/* The twin: a second implementation of the scope document in plain C99, written from the scope, its requests and docs/LAYOUT.md and from
- * nothing else. It works on the same device memory, which it sees as a struct of bytes. The tests hold the proved core against it. */
+/* The twin: a second implementation of the box in plain C99, written from the scope, its requests and docs/LAYOUT.md and from nothing else. It works
+ * on the same device memory: the raw channels 1 to 4 with the clock (raw.h) and behind them the ISO 15765 channels 5 to 8 (iso.h), each seen as a
+ * struct of bytes. The tests hold the proved core against it. */
 #ifndef TWIN_H
 #define TWIN_H
 
 #include <stddef.h>
 #include <stdint.h>
 
-#define TWIN_MEMORY 10000u
+#define TWIN_MEMORY 42256u
 
 int twin_valid(const uint8_t *m, size_t len);
 uint32_t twin_power_on(uint8_t *m, size_t len);
@@ -17,6 +18,8 @@ uint32_t twin_advance(uint8_t *m, size_t len, uint32_t us);
 uint32_t twin_frame(uint8_t *m, size_t len, uint32_t line, uint32_t wide, uint32_t id, const uint8_t *data, size_t n);
 uint32_t twin_start_filter(uint8_t *m, size_t len, uint32_t channel, uint32_t type, const uint8_t *mask, size_t mask_len,
                            const uint8_t *pattern, size_t pattern_len, uint32_t *number);
+uint32_t twin_start_flow_filter(uint8_t *m, size_t len, uint32_t channel, uint32_t type, const uint8_t *mask, size_t mask_len,
+                                const uint8_t *pattern, size_t pattern_len, const uint8_t *flow, size_t flow_len, uint32_t *number);
 uint32_t twin_stop_filter(uint8_t *m, size_t len, uint32_t channel, uint32_t number);
 uint32_t twin_start_periodic(uint8_t *m, size_t len, uint32_t channel, const uint8_t *message, size_t message_len, uint32_t interval,
                              uint32_t *number);
