@@ -7,7 +7,7 @@ use Rattle.codec.specs.Plain.{if_then_else_}
 use Rattle.recording_sizes.specs.Sizes.{recordOn}
 use Rattle.number.specs.Number.{bytesOf}
 use Rattle.machine.specs.Channel.{Call, disconnect, startFilter, startFlow, stopFilter, startPeriodic, stopPeriodic, write, read, takeNext, sent, clear, getParameter, setParameter, lastError, getList, setList, Answer}
-use Rattle.machine.specs.Device.{Event, connect, call, frame, advance, close}
+use Rattle.machine.specs.Step.{Event, connect, call, frame, advance, close}
 
 -- these bytes on 0x00, else none
 unfoldable pub onDone : ℕ → List ℕ → List ℕ

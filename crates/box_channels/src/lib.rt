@@ -6,7 +6,7 @@ ghost use lib.Dec.{T};
 ghost use Rattle.machine.specs.Channel.{disconnect as disconnects};
 ghost use Rattle.machine.specs.Channel.{clear as clears};
 ghost use Rattle.machine.specs.Channel.{getParameter, setParameter, lastError};
-ghost use Rattle.machine.specs.Device.{call};
+ghost use Rattle.machine.specs.Step.{call};
 ghost use Rattle.layout.specs.Promise.{gives};
 ghost use Rattle.memory.specs.Memory.{valid};
 ghost use Rattle.memory.specs.Promise.{outcome};

@@ -14,7 +14,7 @@ use Rattle.codec.proofs.Tests.{T-true}
 use Rattle.machine.specs.Limits.{lines, canProtocol}
 use Rattle.machine.specs.Codes.{codeOf}
 use Rattle.machine.specs.Channel.{Answer, says, connectCode, onConnect, noted, notedInUse}
-use Rattle.machine.specs.Device.{connect}
+use Rattle.machine.specs.Step.{connect}
 use Rattle.machine.specs.Demands.{refusal, results, partDone}
 use Rattle.machine.proofs.Refusals.{in-use-open, connect-fair}
 use Rattle.layout.specs.Sizes.{regionSize}

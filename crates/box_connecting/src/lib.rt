@@ -7,7 +7,7 @@ ghost use lib.Dec.{T, eqb};
 ghost use Rattle.codec.specs.Plain.{if_then_else_};
 ghost use Rattle.machine.specs.Limits.{lines, canProtocol};
 ghost use Rattle.machine.specs.Channel.{connectCode};
-ghost use Rattle.machine.specs.Device.{connect as connects};
+ghost use Rattle.machine.specs.Step.{connect as connects};
 ghost use Rattle.layout.specs.Promise.{gives};
 ghost use Rattle.iso.specs.Limits.{isoProtocol};
 ghost use Rattle.iso.specs.Iso.{isoConnectCode};

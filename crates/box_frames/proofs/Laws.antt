@@ -15,8 +15,8 @@ use Rattle.machine.specs.Limits.{lines}
 use Rattle.machine.specs.Codes.{codeOf}
 use Rattle.machine.specs.Message.{idBytes}
 use Rattle.machine.specs.Channel.{Chan, closed, opened, Answer, says, frameCode, offered, onFrame}
-use Rattle.machine.specs.Device as raw-box
-use Rattle.machine.specs.Device.{frame, chanStep}
+use Rattle.machine.specs.Step as raw-step
+use Rattle.machine.specs.Step.{frame, chanStep}
 use Rattle.layout.specs.Sizes.{regionSize}
 use Rattle.layout.specs.Memory.{chanBack, openPart, region}
 use Rattle.layout.specs.Promise.{gives, Opened}
@@ -73,7 +73,7 @@ module _ (rates m : List ℕ) (v : T (valid m)) where
 
   module _ (l w n : ℕ) (b : List ℕ) where
     own-answer : ownAnswer rates (frame l w n b) ≡ says (codeOf ((ltb 3 l, 0x13) ∷ (true, frameCode w n b) ∷ [])) 0 []
-    unfolding ownAnswer raw-box.ownAnswer
+    unfolding ownAnswer raw-step.ownAnswer
     own-answer = refl
 
     pub frame-no-line : lines ≤ l → gives 0x13 0 [] m ≡ outcome rates m (frame l w n b)

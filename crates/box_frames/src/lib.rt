@@ -5,7 +5,7 @@ ghost use Prim.Native.Nat.{ℕ};
 ghost use lib.Dec.{T};
 ghost use lib.ListN.{length};
 ghost use Rattle.machine.specs.Channel.{frameCode, onFrame};
-ghost use Rattle.machine.specs.Device.{frame as framed};
+ghost use Rattle.machine.specs.Step.{frame as framed};
 ghost use Rattle.layout.specs.Sizes.{regionSize};
 ghost use Rattle.layout.specs.Memory.{region};
 ghost use Rattle.layout.specs.Promise.{gives};

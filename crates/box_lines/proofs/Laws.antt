@@ -9,7 +9,7 @@ use lib.Dec.{T}
 use borrow.Rule.Slice.PartMut.{putMid, midOf}
 use Rattle.codec.specs.Plain.{zeros}
 use Rattle.machine.specs.Channel.{says}
-use Rattle.machine.specs.Device.{close}
+use Rattle.machine.specs.Step.{close}
 use Rattle.layout.specs.Sizes.{numberSize}
 use Rattle.layout.specs.Promise.{gives}
 use Rattle.whole.proofs.Dispatch.{step-close}

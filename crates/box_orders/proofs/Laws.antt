@@ -12,8 +12,8 @@ use borrow.Rule.Slice.PartMut.{midOf}
 use Rattle.codec.specs.Plain.{if_then_else_}
 use Rattle.machine.specs.Limits.{lines}
 use Rattle.machine.specs.Channel.{Chan, closed, opened, Call, Answer, says, lent, startFilter, startFlow, onOpen, onCall, noted}
-use Rattle.machine.specs.Device as raw-box
-use Rattle.machine.specs.Device.{call, chanStep, clockAfter}
+use Rattle.machine.specs.Step as raw-step
+use Rattle.machine.specs.Step.{call, chanStep, clockAfter}
 use Rattle.layout.specs.Memory.{region}
 use Rattle.layout.specs.Promise.{gives, answered, regionGives, callOutcome}
 use Rattle.iso.specs.Iso.{Iso, shut, ready, onReady, onIsoCall, isoNoted}
@@ -53,7 +53,7 @@ module _ (x y : Call) (raws : (rates : List ℕ) (t : ℕ) (c : Chan) → onCall
   any-same t (iso c) = ap (λ (o : Iso × Answer). o .1) (isos rates t c)
 
   answer-same : (s : Option ℕ) → answerBy s rates d (call k x) ≡ answerBy s rates d (call k y)
-  unfolding answerBy ownAnswer raw-box.ownAnswer
+  unfolding answerBy ownAnswer raw-step.ownAnswer
   answer-same none = ap (λ (b : List ℕ). says 0x02 0 b) lends
   answer-same (some i) = any-same (d .clock) (anyAt i d)
 
@@ -70,7 +70,7 @@ module _ (x y : Call) (raws : (rates : List ℕ) (t : ℕ) (c : Chan) → onCall
       )
 
 pub no-third-record : (rates m : List ℕ) (k type : ℕ) (mask pattern flow : List ℕ) → flow ≡ [] → outcome rates m (call k (startFlow type mask pattern flow)) ≡ outcome rates m (call k (startFilter type mask pattern))
-unfolding outcome raw-box.lentBy lent
+unfolding outcome raw-step.lentBy lent
 no-third-record rates m k type mask pattern flow e =
     ap (λ (b : List ℕ). outcome rates m (call k (startFlow type mask pattern b))) e
     ∙ (λ i.

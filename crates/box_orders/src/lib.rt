@@ -4,7 +4,7 @@ ghost use mathlib.Core.List.{List, []};
 ghost use Prim.Native.Nat.{ℕ};
 ghost use lib.Dec.{T};
 ghost use Rattle.machine.specs.Channel.{startFilter, startFlow, stopFilter, startPeriodic, stopPeriodic};
-ghost use Rattle.machine.specs.Device.{call};
+ghost use Rattle.machine.specs.Step.{call};
 ghost use Rattle.layout.specs.Promise.{gives};
 ghost use Rattle.memory.specs.Memory.{valid};
 ghost use Rattle.memory.specs.Promise.{outcome};

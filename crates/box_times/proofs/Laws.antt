@@ -14,8 +14,8 @@ use Rattle.codec.specs.Code.{many}
 use Rattle.machine.specs.Limits.{lines, mostAdvance}
 use Rattle.machine.specs.Codes.{codeOf}
 use Rattle.machine.specs.Channel.{Chan, Answer, says, onAdvance}
-use Rattle.machine.specs.Device as raw-box
-use Rattle.machine.specs.Device.{advance, clockAfter, chanStep}
+use Rattle.machine.specs.Step as raw-step
+use Rattle.machine.specs.Step.{advance, clockAfter, chanStep}
 use Rattle.machine.proofs.Refusals.{advance-left, clock-left}
 use Rattle.layout.specs.Sizes.{numberSize, regionSize}
 use Rattle.layout.specs.Memory.{region}
@@ -51,7 +51,7 @@ module _ (rates m : List ℕ) (v : T (valid m)) where
 
   module _ (us : ℕ) where
     pub advance-refused : mostAdvance < us → gives 0x0B 0 [] m ≡ outcome rates m (advance us)
-    unfolding ownAnswer raw-box.ownAnswer codeOf says
+    unfolding ownAnswer raw-step.ownAnswer codeOf says
     advance-refused h =
         let over = lt-leb us mostAdvance h in
         unmoved m v rates (advance us) (says 0x0B 0 [])
@@ -104,7 +104,7 @@ module _ (rates m : List ℕ) (v : T (valid m)) where
               same-len-mid 0 numberSize second ws (ap length ew ∙ sym (length-take-le numberSize second (omega (arith, valid-long second second-valid)))) ∙ valid-long second second-valid ∙ sym (valid-long m v)
 
           pub advanced : (old new : ℕ) (ws : List ℕ) → old ≡ wordAt 0 m → new ≡ (old + us) % 0x1_0000_0000 → ws ≡ word new → gives 0 0 [] (putMid 0 numberSize second ws) ≡ outcome rates m (advance us)
-          unfolding ownAnswer raw-box.ownAnswer codeOf says clockAfter
+          unfolding ownAnswer raw-step.ownAnswer codeOf says clockAfter
           advanced old new ws eo en ew =
               let k : ℕ = (load m .clock + us) % 0x1_0000_0000 in
               let after : Device = record { clock = k; chans = map (onAdvance us) (load m .chans); isos = map (onIsoAdvance us) (load m .isos) } in

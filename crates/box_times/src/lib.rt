@@ -7,7 +7,7 @@ ghost use lib.ListN.{length};
 ghost use Rattle.codec.specs.Code.{many};
 ghost use Rattle.machine.specs.Limits.{lines, mostAdvance};
 ghost use Rattle.machine.specs.Channel.{onAdvance};
-ghost use Rattle.machine.specs.Device.{advance as advances};
+ghost use Rattle.machine.specs.Step.{advance as advances};
 ghost use Rattle.layout.specs.Sizes.{regionSize};
 ghost use Rattle.layout.specs.Memory.{region};
 ghost use Rattle.layout.specs.Promise.{gives};

@@ -5,7 +5,7 @@ ghost use Prim.Native.Nat.{ℕ};
 ghost use lib.Dec.{T};
 ghost use Rattle.machine.specs.Channel.{write as writes};
 ghost use Rattle.machine.specs.Channel.{read as reads};
-ghost use Rattle.machine.specs.Device.{call};
+ghost use Rattle.machine.specs.Step.{call};
 ghost use Rattle.layout.specs.Promise.{gives};
 ghost use Rattle.memory.specs.Memory.{valid};
 ghost use Rattle.memory.specs.Promise.{outcome};

@@ -2,9 +2,9 @@
 ghost use mathlib.Core.Path.{_≡_};
 ghost use mathlib.Core.List.{[]};
 ghost use Rattle.machine.specs.Codes.{twoRates};
-ghost use Rattle.machine.specs.Device.{close as closes};
-ghost use Rattle.machine.specs.Device.{advance as advances};
-ghost use Rattle.machine.specs.Device.{frame as framed};
+ghost use Rattle.machine.specs.Step.{close as closes};
+ghost use Rattle.machine.specs.Step.{advance as advances};
+ghost use Rattle.machine.specs.Step.{frame as framed};
 ghost use Rattle.layout.specs.Promise.{gives, outcome, powerOnOutcome};
 use places::MEMORY;
 

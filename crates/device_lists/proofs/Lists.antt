@@ -10,7 +10,7 @@ use lib.Dec.{T, eqb, eqb→eq}
 use Rattle.machine.specs.Codes.{twoRates}
 use Rattle.machine.specs.Limits.{mostPairs}
 use Rattle.machine.specs.Channel.{Pairs, flat, getParameter, setParameter, getList, setList}
-use Rattle.machine.specs.Device.{call}
+use Rattle.machine.specs.Step.{call}
 use Rattle.layout.specs.Promise.{Result, gives}
 use Rattle.memory.specs.Promise.{outcome}
 use Rattle.memory.proofs.Lists.{Ready, set-ends as set-none-left, set-goes, set-stops, get-ends as get-none-left, get-goes, get-stops, no-value}

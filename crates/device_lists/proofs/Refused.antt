@@ -9,7 +9,7 @@ use lib.Dec.{T, lit<}
 use Rattle.machine.specs.Codes.{twoRates}
 use Rattle.machine.specs.Limits.{mostPairs}
 use Rattle.machine.specs.Channel.{Pairs, flat, lent, getList, setList}
-use Rattle.machine.specs.Device.{lentBy, call}
+use Rattle.machine.specs.Step.{lentBy, call}
 use Rattle.layout.specs.Sizes.{regionSize}
 use Rattle.layout.specs.Promise as raw-promise
 use Rattle.layout.specs.Promise.{gives}

@@ -7,7 +7,7 @@ use lib.Dec.{T}
 use Rattle.machine.specs.Codes.{twoRates}
 use Rattle.machine.specs.Limits.{mostPairs}
 use Rattle.machine.specs.Channel.{Pairs, flat, getList, setList}
-use Rattle.machine.specs.Device.{call}
+use Rattle.machine.specs.Step.{call}
 use Rattle.layout.specs.Promise.{gives}
 use Rattle.memory.specs.Memory.{valid}
 use Rattle.memory.specs.Promise.{outcome, Placed}

@@ -14,7 +14,7 @@ use Rattle.codec.proofs.Tests.{true-T}
 use Rattle.recording_sizes.specs.Sizes.{onIso, recordOn}
 use Rattle.machine.specs.Cases.{_&_}
 use Rattle.machine.specs.Channel.{disconnect, startFilter, startFlow, stopFilter, startPeriodic, stopPeriodic, write, read, takeNext, sent, clear, getParameter, setParameter}
-use Rattle.machine.specs.Device.{Event, connect, call, frame, advance, close}
+use Rattle.machine.specs.Step.{Event, connect, call, frame, advance, close}
 use Rattle.number.specs.Number as numbers
 use Rattle.number.specs.Number.{front, shortest}
 use Rattle.number.specs.Place.{answer, numberAt}

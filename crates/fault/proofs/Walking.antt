@@ -6,7 +6,7 @@ use mathlib.Core.Path.{_≡_, refl, sym, ap, _∙_}
 use native.Mathlib.Omega.{arith}
 use borrow.Author.Tests.{le-leb, lt-leb, le-ltb, lt-ltb}
 use lib.ListN.{length}
-use Rattle.machine.specs.Device as machine
+use Rattle.machine.specs.Step as machine
 use Rattle.edition.specs.Edition.{startOf}
 use Rattle.edition.proofs.Marked.{start-inside}
 use Rattle.events.specs.declared.Event.{Event}

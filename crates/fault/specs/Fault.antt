@@ -6,7 +6,7 @@ use lib.Dec.{leb, ltb, eqb}
 use lib.ListN.{length, getD, drop}
 use Rattle.codec.specs.Plain.{if_then_else_}
 use Rattle.recording_sizes.specs.Sizes.{longest, most, onIso, recordOn}
-use Rattle.machine.specs.Device.{Event}
+use Rattle.machine.specs.Step.{Event}
 use Rattle.number.specs.declared.Number.{Number}
 use Rattle.number.specs.declared.Number.the-variants.{Value, Bad}
 use Rattle.number.specs.Number.{front, shortest}

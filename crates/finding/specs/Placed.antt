@@ -3,7 +3,7 @@ use Prim.Native.Nat.{ℕ}
 use mathlib.Core.Path.{_≡_}
 use mathlib.Core.List.{List}
 use Rattle.machine.specs.Channel.{Call, lent}
-use Rattle.machine.specs.Device.{call}
+use Rattle.machine.specs.Step.{call}
 use Rattle.layout.specs.Promise.{gives, outcome, Found}
 
 pub record Placed (m : List ℕ) (k base : ℕ) : Type 0 where

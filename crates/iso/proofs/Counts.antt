@@ -9,7 +9,7 @@ use lib.Seq.{length-take-le}
 use lib.Dec.{eqb}
 use Rattle.machine.specs.Message.{Rec}
 use Rattle.machine.specs.Channel.{write, read, says, lent}
-use Rattle.machine.specs.Device.{call}
+use Rattle.machine.specs.Step.{call}
 use Rattle.machine.proofs.Refusals.{if-case}
 use Rattle.iso.specs.Limits.{isoRecordSize}
 use Rattle.iso.specs.Iso.{Iso, shut, ready, OpenIso, IsoOutcome, setReceiving, setWritten, setLast, shownIsoAll, isoReading, onIsoRead, isoWriting, onIsoWrite, onReady, onIsoCall, isoNotes, isoNoted}

@@ -16,7 +16,7 @@ use Rattle.machine.specs.Message.{Rec, clean}
 use Rattle.machine.specs.Filter.{Slots}
 use Rattle.machine.specs.Limits.{lastLine, mostAdvance}
 use Rattle.machine.specs.Channel.{Config, Receiving, Call, disconnect, startFilter, startFlow, stopFilter, startPeriodic, stopPeriodic, write, read, takeNext, sent, clear, getParameter, setParameter, lastError, getList, setList, Pairs, flat, lent, Answer, says, frameCode, readCode, Wrote, unlessStopped, listCode}
-use Rattle.machine.specs.Device.{Event, connect, call, frame, advance, close, lentBy, ownAnswer}
+use Rattle.machine.specs.Step.{Event, connect, call, frame, advance, close, lentBy, ownAnswer}
 use Rattle.machine.specs.Demands.{results, pairCodes, didPart, partDone, refusal}
 use Rattle.machine.proofs.Parameters.{set-case, get-case, set-all-case, get-all-case}
 use Rattle.machine.proofs.Refusals.{if-out, either-in, not-in, codeOf-listed, if-case, Fair, not-refused, settled, kept, one-or, read-nothing, not-above, advance-over}

@@ -11,7 +11,7 @@ use Rattle.codec.specs.Plain.{if_then_else_}
 use Rattle.machine.specs.Limits.{lastLine}
 use Rattle.machine.specs.Message.{Rec, clean}
 use Rattle.machine.specs.Channel.{Answer}
-use Rattle.machine.specs.Device.{Event, connect, call, frame, advance, close}
+use Rattle.machine.specs.Step.{Event, connect, call, frame, advance, close}
 use Rattle.iso.specs.Limits.{isoRecordSize}
 use Rattle.iso.specs.Iso.{Iso, shut, ready, shownIsoAll, isoNotes}
 

@@ -3,7 +3,7 @@
 use Prim.Native.Nat.{ℕ}
 use mathlib.Core.List.{List, [], _∷_}
 use Rattle.machine.specs.Channel.{Answer, says}
-use Rattle.machine.specs.Device.{Event, connect, call, frame, advance, close, ownAnswer, clockAfter}
+use Rattle.machine.specs.Step.{Event, connect, call, frame, advance, close, ownAnswer, clockAfter}
 use Rattle.iso.specs.Iso.{Iso, shut, IsoOutcome, onIsoFrame, onIsoAdvance, onIsoConnect, onIsoCall, isoNoted, isoNotedInUse}
 
 -- what an event does to a channel that it touches, at the clock `now`, and what that channel says where it is the speaker. Here alone a channel

@@ -18,7 +18,7 @@ use Rattle.machine.specs.Limits.{mostBytes, mostAdvance, dataIn}
 use Rattle.machine.specs.Message.{idOf, idLimit, takes, Rec, sizeOf, wideOf, dataOf, clean}
 use Rattle.machine.specs.Filter.{Slots, free, has, taken, anySlot}
 use Rattle.machine.specs.Channel.{Config, Receiving, Call, disconnect, startFilter, startFlow, stopFilter, startPeriodic, stopPeriodic, write, read, takeNext, sent, clear, getParameter, setParameter, lastError, getList, setList, says, frameCode, isFlags, unlessStopped, listCode}
-use Rattle.machine.specs.Device.{Event, connect, call, frame, advance, close}
+use Rattle.machine.specs.Step.{Event, connect, call, frame, advance, close}
 use Rattle.iso.specs.Limits.{mostTalks, mostMessages, mostHeard, isoData, isoRecordSize, leastMessage}
 use Rattle.iso.specs.Step.{isoStep}
 use Rattle.iso.proofs.Fair.{ready-codes}

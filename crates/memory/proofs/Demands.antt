@@ -13,7 +13,7 @@ use borrow.Author.Tests.{eq-eqb}
 use Rattle.codec.specs.Plain.{zeros, member}
 use Rattle.machine.specs.Codes.{threeRates, twoRates}
 use Rattle.machine.specs.Channel.{Call, Pairs, getList, setList}
-use Rattle.machine.specs.Device.{Event, call}
+use Rattle.machine.specs.Step.{Event, call}
 use Rattle.layout.specs.Promise.{Result, gives, answerOf}
 use Rattle.layout.specs.Reach.{AllBytes}
 use Rattle.layout.proofs.Calls.{Known, three-known, two-known}

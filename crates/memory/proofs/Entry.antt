@@ -15,7 +15,7 @@ use Rattle.codec.specs.Code.{via, slot}
 use Rattle.codec.proofs.Tests.{true-T, or-left}
 use Rattle.machine.specs.Limits.{lines}
 use Rattle.machine.specs.Channel.{Chan, closed, opened, Call, lent, Answer, says, onCall, isOpen, notes, noted}
-use Rattle.machine.specs.Device.{Event, call}
+use Rattle.machine.specs.Step.{Event, call}
 use Rattle.machine.proofs.Refusals.{open-codes, open-opens}
 use Rattle.layout.specs.Sizes.{regionSize, lastAt}
 use Rattle.layout.specs.Memory.{region}

@@ -15,7 +15,7 @@ use Rattle.codec.proofs.Tests.{true-T}
 use Rattle.codec.proofs.Place.{slice-is}
 use Rattle.machine.specs.Limits.{lines}
 use Rattle.machine.specs.Channel.{Answer, says}
-use Rattle.machine.specs.Device.{Event, lentBy}
+use Rattle.machine.specs.Step.{Event, lentBy}
 use Rattle.layout.specs.Sizes.{numberSize, regionSize}
 use Rattle.layout.specs.Memory.{region}
 use Rattle.layout.specs.Promise.{Result, gives, answered, answerOf}

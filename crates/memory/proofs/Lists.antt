@@ -12,7 +12,7 @@ use borrow.Rule.Slice.PartMut.{midOf}
 use Rattle.codec.specs.Plain.{member}
 use Rattle.machine.specs.Limits.{mostPairs}
 use Rattle.machine.specs.Channel.{Chan, closed, opened, isOpen, Answer, says, Pairs, flat, getParameter, setParameter, getList, setList, onOpen}
-use Rattle.machine.specs.Device.{Event, call}
+use Rattle.machine.specs.Step.{Event, call}
 use Rattle.machine.proofs.Parameters.{set-many, get-many}
 use Rattle.layout.specs.Sizes.{regionSize}
 use Rattle.layout.specs.Promise as raw-promise

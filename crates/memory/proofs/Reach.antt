@@ -11,7 +11,7 @@ use Rattle.codec.proofs.Lawful.{word-ok, ok-word, both-first, both-second}
 use Rattle.codec.proofs.Many.{many-count, many-each, many-make}
 use Rattle.machine.specs.Limits.{lines}
 use Rattle.machine.specs.Codes.{threeRates, twoRates}
-use Rattle.machine.specs.Device.{Event, chanStep}
+use Rattle.machine.specs.Step.{Event, chanStep}
 use Rattle.layout.specs.Memory.{region}
 use Rattle.layout.specs.Reach.{Bytes, AllBytes}
 use Rattle.layout.proofs.Good.{fine-closed}

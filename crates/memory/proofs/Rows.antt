@@ -19,7 +19,7 @@ use Rattle.codec.proofs.Place.{Place, inside, at, in-first, in-second, in-via, 
 use Rattle.codec.proofs.Word.{word-part}
 use Rattle.machine.specs.Limits.{lines}
 use Rattle.machine.specs.Channel.{Chan, closed, Answer}
-use Rattle.machine.specs.Device.{Event, lentBy}
+use Rattle.machine.specs.Step.{Event, lentBy}
 use Rattle.layout.specs.Memory.{region}
 use Rattle.layout.specs.Sizes.{numberSize, regionSize, regionsSize}
 use Rattle.layout.specs.Promise.{Result, gives, answered}

@@ -14,7 +14,7 @@ use Rattle.codec.specs.Word.{wordAt}
 use Rattle.codec.proofs.Tests.{true-T}
 use Rattle.machine.specs.Limits.{lines}
 use Rattle.machine.specs.Channel.{Chan, Call, lent, Answer, says, onCall}
-use Rattle.machine.specs.Device.{call}
+use Rattle.machine.specs.Step.{call}
 use Rattle.layout.specs.Sizes.{regionSize, lastAt}
 use Rattle.layout.specs.Memory.{region}
 use Rattle.layout.specs.Promise as raw-promise

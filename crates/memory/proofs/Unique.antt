@@ -14,7 +14,7 @@ use Rattle.codec.proofs.Tests.{true-T}
 use Rattle.machine.specs.Limits.{lines}
 use Rattle.machine.specs.Codes.{stepCodes}
 use Rattle.machine.specs.Channel.{Answer, notes}
-use Rattle.machine.specs.Device.{Event, connect, call, frame, advance, close, lentBy}
+use Rattle.machine.specs.Step.{Event, connect, call, frame, advance, close, lentBy}
 use Rattle.machine.proofs.Refusals.{not-in, not-refused}
 use Rattle.layout.specs.Sizes.{lastAt}
 use Rattle.layout.specs.Promise.{Result, gives, answered, answerOf}

@@ -8,7 +8,7 @@ use lib.ListN.{length, getD, set}
 use Rattle.codec.specs.Plain.{if_then_else_}
 use Rattle.machine.specs.Limits.{lines}
 use Rattle.machine.specs.Channel.{Call, lent}
-use Rattle.machine.specs.Device.{Event, call, lentBy}
+use Rattle.machine.specs.Step.{Event, call, lentBy}
 use Rattle.layout.specs.Sizes.{numberSize, regionSize}
 use Rattle.layout.specs.Promise.{Result, gives, answered}
 use Rattle.iso_layout.specs.Sizes.{isoRegionSize}

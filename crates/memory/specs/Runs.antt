@@ -9,7 +9,7 @@ use lib.Dec.{eqb, ltb}
 use Rattle.codec.specs.Plain.{if_then_else_, member}
 use Rattle.machine.specs.Limits.{lines}
 use Rattle.machine.specs.Channel.{Answer, Pairs, flat, getParameter, setParameter, getList, setList}
-use Rattle.machine.specs.Device.{Event, connect, call, frame, advance, close, lentBy}
+use Rattle.machine.specs.Step.{Event, connect, call, frame, advance, close, lentBy}
 use Rattle.layout.specs.Sizes.{numberSize, regionSize, lastAt}
 use Rattle.layout.specs.Promise.{answerOf}
 use Rattle.iso_layout.specs.Sizes.{isoRegionSize, isoLastAt}

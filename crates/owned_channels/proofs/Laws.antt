@@ -13,7 +13,7 @@ use Rattle.codec.proofs.Tests.{or-left}
 use Rattle.machine.specs.Limits.{lines}
 use Rattle.machine.specs.Codes.{codeOf}
 use Rattle.machine.specs.Channel.{Chan, Outcome, says, isOpen, connectCode, onConnect, noted, notedInUse}
-use Rattle.machine.specs.Device.{connect, chanAt, ownAnswer}
+use Rattle.machine.specs.Step.{connect, chanAt, ownAnswer}
 use Rattle.machine.proofs.Refusals.{in-use-open}
 use Rattle.machine.proofs.Dispatch.{step-connect, step-no-line}
 use Rattle.layout.specs.Sizes.{regionAt, regionSize}

@@ -18,7 +18,7 @@ use Rattle.machine.specs.Limits.{lines, mostBytes, mostAdvance}
 use Rattle.machine.specs.Codes.{codeOf}
 use Rattle.machine.specs.Message.{idBytes, idLimit}
 use Rattle.machine.specs.Channel.{Chan, closed, opened, Open, Answer, says, frameCode, offered, onFrame, onAdvance}
-use Rattle.machine.specs.Device.{Device, frame, advance, close, chanAt, ownAnswer, clockAfter, chanStep}
+use Rattle.machine.specs.Step.{Device, frame, advance, close, chanAt, ownAnswer, clockAfter, chanStep}
 use Rattle.machine.proofs.Dispatch.{withChan, withChan-same, withChan-beyond, same-device, step-frame, step-advance, step-close}
 use Rattle.layout.specs.Sizes.{numberSize, regionAt, regionSize, regionsSize}
 use Rattle.layout.specs.Memory.{region, image, load, valid}

@@ -4,7 +4,7 @@ ghost use mathlib.Core.List.{List, []};
 ghost use Prim.Native.Nat.{ℕ};
 ghost use lib.Dec.{T};
 ghost use Rattle.machine.specs.Channel.{startFilter, stopFilter, startPeriodic, stopPeriodic};
-ghost use Rattle.machine.specs.Device.{call};
+ghost use Rattle.machine.specs.Step.{call};
 ghost use Rattle.layout.specs.Memory.{valid};
 ghost use Rattle.layout.specs.Promise.{gives, outcome};
 use codes::Answer;

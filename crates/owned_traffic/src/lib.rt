@@ -7,7 +7,7 @@ ghost use Rattle.machine.specs.Channel.{write as writes};
 ghost use Rattle.machine.specs.Channel.{read as reads};
 ghost use Rattle.machine.specs.Channel.{takeNext};
 ghost use Rattle.machine.specs.Channel.{sent as sentOf};
-ghost use Rattle.machine.specs.Device.{call};
+ghost use Rattle.machine.specs.Step.{call};
 ghost use Rattle.layout.specs.Memory.{valid};
 ghost use Rattle.layout.specs.Promise.{gives, outcome};
 use codes::Answer;

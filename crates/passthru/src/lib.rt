@@ -5,7 +5,7 @@ ghost use mathlib.Core.Bool.{not};
 ghost use lib.Dec.{eqb};
 ghost use Rattle.machine.specs.Codes.{twoRates};
 ghost use Rattle.machine.specs.Channel.{disconnect, clear, write, read, takeNext, sent, startFilter, stopFilter, startPeriodic, stopPeriodic, getParameter, setParameter, lastError, getList, setList, flat};
-ghost use Rattle.machine.specs.Device.{call, connect, close, advance, frame};
+ghost use Rattle.machine.specs.Step.{call, connect, close, advance, frame};
 ghost use Rattle.layout.specs.Memory.{valid};
 ghost use Rattle.layout.specs.Promise.{gives, outcome, powerOnOutcome};
 ghost use Rattle.device_lists.specs.Lists.{listed};

@@ -11,7 +11,7 @@ use borrow.Author.Tests.{eq-eqb, ne-eqb}
 use borrow.Rule.Slice.PartMut.{putMid, midOf}
 use Rattle.codec.specs.Plain.{zeros}
 use Rattle.machine.specs.Channel.{Call, Answer, says, write, read, takeNext}
-use Rattle.machine.specs.Device.{Device, Event, call, step}
+use Rattle.machine.specs.Step.{Device, Event, call, step}
 use Rattle.layout.specs.Memory.{image, load, valid}
 use Rattle.layout.specs.Promise.{gives, answered, outcome}
 use Rattle.layout.proofs.Entry.{by-step, four}

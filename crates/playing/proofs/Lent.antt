@@ -13,7 +13,7 @@ use Rattle.codec.specs.Plain.{if_then_else_, within}
 use Rattle.machine.specs.Codes.{codeOf}
 use Rattle.machine.specs.Message.{Rec, shown, shownAll}
 use Rattle.machine.specs.Channel.{Chan, closed, opened, Open, Call, read, takeNext, lent, Answer, says, Outcome, withSending, withReceiving, unless, shorter, readCode, reading, onRead, Next, next, giving, chosen, taking, onTake, onOpen, onCall, notes, noted}
-use Rattle.machine.specs.Device.{Device, call, chanAt, step}
+use Rattle.machine.specs.Step.{Device, call, chanAt, step}
 use Rattle.machine.specs.Demands.{FourChannels}
 use Rattle.machine.proofs.Dispatch.{withChan, step-call, step-no-channel}
 

@@ -9,7 +9,7 @@ use lib.Dec.{T, eqb, ltb, ltb→lt}
 use Rattle.codec.proofs.Tests.{left, right}
 use Rattle.codec.specs.Plain.{member, all}
 use Rattle.machine.specs.Codes.{stepCodes, table}
-use Rattle.machine.specs.Device.{Device, Event, step}
+use Rattle.machine.specs.Step.{Device, Event, step}
 use Rattle.machine.proofs.Refusals.{codes-in-table}
 use Rattle.number.specs.Number.{bytesOf}
 use Rattle.number.proofs.Laws.{groups-one}

@@ -8,7 +8,7 @@ use lib.Dec.{T}
 use lib.ListN.{length, drop}
 use Rattle.codec.specs.Plain.{all, isByte}
 use Rattle.codec.proofs.Lists.{all-take, all-drop}
-use Rattle.machine.specs.Device as machine
+use Rattle.machine.specs.Step as machine
 use Rattle.layout.specs.Reach.{Bytes}
 use Rattle.number.specs.Place.{Written}
 use Rattle.edition.specs.Edition.{markAt}

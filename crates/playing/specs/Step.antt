@@ -5,7 +5,7 @@ use mathlib.Core.List.{List}
 use mathlib.Core.Option.{Option, none, some}
 use mathlib.Core.Path.{_≡_}
 use lib.ListN.{length}
-use Rattle.machine.specs.Device.{Event, step}
+use Rattle.machine.specs.Step.{Event, step}
 use Rattle.layout.specs.Memory.{image, load}
 use Rattle.layout.specs.Reach.{Bytes}
 use Rattle.recording_sizes.specs.Sizes.{badNumber}

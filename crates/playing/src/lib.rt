@@ -8,7 +8,7 @@ ghost use Rattle.recording_sizes.specs.Sizes.{most, eventRoom};
 ghost use Rattle.machine.specs.Limits.{recordSize};
 ghost use Rattle.machine.specs.Channel.{takeNext};
 ghost use Rattle.machine.specs.Channel.{read as reads};
-ghost use Rattle.machine.specs.Device.{call};
+ghost use Rattle.machine.specs.Step.{call};
 ghost use Rattle.layout.specs.Memory.{valid};
 ghost use Rattle.events.specs.Events.{readEvent};
 ghost use Rattle.events.specs.Found.{eventOf, EventThere};

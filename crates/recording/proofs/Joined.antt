@@ -14,7 +14,7 @@ use lib.Seq.{take-at}
 use Rattle.codec.specs.Plain.{all, isByte, zeros}
 use Rattle.codec.proofs.Lists.{Each}
 use Rattle.codec.proofs.Tests.{T-true, true-T}
-use Rattle.machine.specs.Device.{Device, Event, powerOn, step}
+use Rattle.machine.specs.Step.{Device, Event, powerOn, step}
 use Rattle.layout.specs.Memory.{memory, image, load, valid}
 use Rattle.layout.specs.Sizes.{memorySize}
 use Rattle.layout.proofs.Calls.{Known}

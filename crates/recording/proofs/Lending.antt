@@ -10,7 +10,7 @@ use lib.ListN.{length, getD, take, drop}
 use Rattle.codec.specs.Plain.{if_then_else_, all, isByte}
 use Rattle.codec.proofs.Lists.{Each, all-take, all-drop}
 use Rattle.machine.specs.Cases.{_&_}
-use Rattle.machine.specs.Device.{Event, close}
+use Rattle.machine.specs.Step.{Event, close}
 use Rattle.layout.specs.Reach.{Bytes}
 use Rattle.events.specs.Events.{Reads, _>>=_, done, bad, number, bytes, recordIn, arguments, argumentsOf, readEvent}
 use Rattle.events.proofs.Reading.{same, split}

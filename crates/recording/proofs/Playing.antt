@@ -9,7 +9,7 @@ use borrow.Author.Tests.{le-leb, lt-leb, lt-ltb, le-ltb}
 use lib.Dec.{T, leb, ltb}
 use lib.ListN.{length, take, drop, length-append, length-take, length-drop}
 use Rattle.codec.specs.Plain.{if_then_else_}
-use Rattle.machine.specs.Device.{Device, Event, connect, call, frame, advance, close, step}
+use Rattle.machine.specs.Step.{Device, Event, connect, call, frame, advance, close, step}
 use Rattle.layout.specs.Memory.{load, valid}
 use Rattle.layout.specs.Reach.{Bytes}
 use Rattle.layout.proofs.Calls.{Known}

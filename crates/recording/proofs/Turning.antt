@@ -7,7 +7,7 @@ use mathlib.Core.List.{List}
 use native.Mathlib.Omega.{arith}
 use lib.Dec.{T}
 use lib.ListN.{length}
-use Rattle.machine.specs.Device as machine
+use Rattle.machine.specs.Step as machine
 use Rattle.layout.specs.Memory.{load, valid}
 use Rattle.recording_sizes.specs.Sizes.{eventRoom}
 use Rattle.events.specs.Events.{readEvent}

@@ -10,7 +10,7 @@ use lib.ListN.{length, drop}
 use Rattle.codec.specs.Plain.{if_then_else_}
 use Rattle.recording_sizes.specs.Sizes.{longest, eventRoom, badNumber}
 use Rattle.number.specs.Number.{bytesOf}
-use Rattle.machine.specs.Device.{Device, powerOn, Event, step}
+use Rattle.machine.specs.Step.{Device, powerOn, Event, step}
 use Rattle.layout.specs.Memory.{image, load, valid}
 use Rattle.edition.specs.Edition.{markSize, ratesOf, startOf, markAt}
 use Rattle.events.specs.Events.{readEvent}

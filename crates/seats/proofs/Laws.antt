@@ -10,7 +10,7 @@ use borrow.Author.Tests.{lt-ltb, le-ltb, ltb-true, ltb-false}
 use Rattle.codec.specs.Plain.{within}
 use Rattle.machine.specs.Limits.{lines}
 use Rattle.machine.specs.Channel.{Call, lent}
-use Rattle.machine.specs.Device.{call}
+use Rattle.machine.specs.Step.{call}
 use Rattle.layout.specs.Promise.{gives}
 use Rattle.iso_layout.specs.Sizes.{isoRegionSize}
 use Rattle.whole.specs.Device.{channels}

@@ -3,7 +3,7 @@
 use Prim.Native.Nat.{ℕ, _+_, _<_}
 use mathlib.Core.List.{List}
 use Rattle.machine.specs.Channel.{write, read}
-use Rattle.machine.specs.Device.{call}
+use Rattle.machine.specs.Step.{call}
 use Rattle.machine.specs.Demands.{ReadMoved, WriteQueued}
 use Rattle.machine.proofs.Counts as raw-laws
 use Rattle.iso.specs.Step.{isoStep}

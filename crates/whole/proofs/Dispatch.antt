@@ -18,8 +18,8 @@ use Rattle.machine.specs.Channel.{Chan, closed, Call, Answer, says, lent, Outco
 use Rattle.iso.specs.Iso.{Iso, shut, onIsoCall, onIsoConnect, onIsoFrame, onIsoAdvance, isoNoted, isoNotedInUse}
 use Rattle.iso.specs.Step.{isoStep}
 use Rattle.whole.specs.Demands.{EightChannels, concerns, withAny}
-use Rattle.machine.specs.Device.{Event, connect, call, frame, advance, close, chanStep, clockAfter}
-use Rattle.machine.specs.Device as raw-box
+use Rattle.machine.specs.Step.{Event, connect, call, frame, advance, close, chanStep, clockAfter}
+use Rattle.machine.specs.Step as raw-step
 use Rattle.whole.specs.Device.{Device, Any, raw, iso, chanAt, isoAt, anyAt, lineOf, protocolAt, connected, numbered, touches, speaker, ownAnswer, anyStep, moved, after, answerBy, answer, step, run, answers}
 
 -- ---- which channels an event touches
@@ -499,7 +499,7 @@ module _ (rates : List ℕ) where
   step-advance d t = together d (advance t) (after-all d (advance t) (λ i. refl)) (answer-own d (advance t) refl)
 
   pub step-close : (d : Device) → step rates d close ≡ (record { clock = d .clock; chans = map (λ c. closed) (d .chans); isos = map (λ c. shut) (d .isos) }, says 0x00 0 [])
-  unfolding chanStep isoStep touches speaker clockAfter ownAnswer raw-box.ownAnswer
+  unfolding chanStep isoStep touches speaker clockAfter ownAnswer raw-step.ownAnswer
   step-close d = together d close (after-all d close (λ i. refl)) (answer-own d close refl)
 
   -- an event that no channel answers and that leaves every channel and the clock
@@ -509,7 +509,7 @@ module _ (rates : List ℕ) where
 
   -- a call whose number is not 1 to 8, and a connect to a line over 3 or of another protocol, leave the device
   pub step-no-channel : (d : Device) (k : ℕ) (x : Call) → EightChannels d → within 1 8 k ≡ false → step rates d (call k x) ≡ (d, says 0x02 0 (lent x))
-  unfolding ownAnswer raw-box.ownAnswer clockAfter speaker numbered touches
+  unfolding ownAnswer raw-step.ownAnswer clockAfter speaker numbered touches
   step-no-channel d k x w out =
       step-nobody d (call k x) w refl (λ i h. ne-eqb k (i + 1) (λ q. true≢false (sym (between 1 8 k (omega arith) (omega arith)) ∙ out))) (rw out)
 

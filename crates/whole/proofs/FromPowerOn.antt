@@ -9,7 +9,7 @@ use lib.ListN.{length}
 use Rattle.codec.specs.Plain.{member}
 use Rattle.machine.specs.Limits.{mostPairs}
 use Rattle.machine.specs.Channel.{Call, Pairs, flat, getParameter, setParameter, getList, setList, says}
-use Rattle.machine.specs.Device.{Event, call, lentBy}
+use Rattle.machine.specs.Step.{Event, call, lentBy}
 use Rattle.whole.specs.Device.{channels, powerOn, anyAt, step, run, answers}
 use Rattle.whole.specs.Demands.{EightChannels, pairCodes, refusal, SetEnded, GetEnded, remembers, concerns, strike, answersOf, Projected, Exchanged, SameToEach, Arranged, Ignored, Names, byCall}
 use Rattle.whole.proofs.Dispatch.{run-channels-kept}

@@ -13,7 +13,7 @@ use lib.Seq.{ext-getD}
 use lib.Dec.{T, eqb, eqb→eq, lit<}
 use Rattle.codec.specs.Plain.{if_then_else_}
 use Rattle.machine.specs.Channel.{Answer}
-use Rattle.machine.specs.Device.{Event, connect, clockAfter}
+use Rattle.machine.specs.Step.{Event, connect, clockAfter}
 use Rattle.whole.specs.Device.{Device, Any, anyAt, touches, speaker, anyStep, after, answer, step, run, answers}
 use Rattle.whole.specs.Demands.{EightChannels, concerns, strike, answersOf, Alike, Projected, Apart, Exchanged, SameToEach, Arranged, Ignored, Names, byCall, byRaw, byIso}
 use Rattle.whole.proofs.Dispatch.{touches-concerned, speaker-only, speaker-eight, raw-only, iso-only, clock-stays, same-places, channels-kept, chan-after, chan-stays, none-move, answer-spoken, answer-own, run-channels-kept}

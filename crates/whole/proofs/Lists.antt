@@ -14,7 +14,7 @@ use Rattle.codec.specs.Plain.{if_then_else_, within, member}
 use Rattle.codec.proofs.Tests.{true-T, within-low, within-high}
 use Rattle.machine.specs.Limits.{mostPairs}
 use Rattle.machine.specs.Channel.{Open, Chan, closed, opened, Pairs, flat, Call, getParameter, setParameter, getList, setList, Answer, says, lent, Outcome, setTo, onSet, onOpen, onCall, notes, noted}
-use Rattle.machine.specs.Device.{Event, call, chanStep, clockAfter}
+use Rattle.machine.specs.Step.{Event, call, chanStep, clockAfter}
 use Rattle.machine.proofs.Parameters.{either, set-many, get-many}
 use Rattle.machine.proofs.Pairs as raw-lists
 use Rattle.iso.specs.Iso.{OpenIso, Iso, shut, ready, IsoOutcome, isoSetTo, onIsoSet, onReady, onIsoCall, isoNotes, isoNoted}

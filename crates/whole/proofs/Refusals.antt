@@ -14,8 +14,8 @@ use Rattle.codec.proofs.Tests.{true-T, within-low}
 use Rattle.machine.specs.Limits.{lastLine}
 use Rattle.machine.specs.Codes.{stepCodes, codeOf}
 use Rattle.machine.specs.Channel.{Chan, Call, Answer, says, lent, onCall, onConnect, onFrame, onAdvance, connectCode, frameCode, noted, notedInUse, notes}
-use Rattle.machine.specs.Device.{Event, connect, call, frame, advance, close, lentBy, chanStep, clockAfter}
-use Rattle.machine.specs.Device as raw-box
+use Rattle.machine.specs.Step.{Event, connect, call, frame, advance, close, lentBy, chanStep, clockAfter}
+use Rattle.machine.specs.Step as raw-step
 use Rattle.machine.proofs.Refusals.{in-wider, if-out, either-in, codeOf-listed, not-refused, connect-fair, call-noted, notedInUse-answer, notedInUse-leaves, chanStep-listed, frame-left, advance-left, advance-over, clock-left}
 use Rattle.machine.proofs.Refusals as raw-laws
 use Rattle.iso.specs.Iso.{Iso, shut, ready, isoCodes, onIsoConnect, onIsoCall, onIsoFrame, onIsoAdvance, isoConnectCode, isoNotes, isoNoted, isoNotedInUse}
@@ -169,7 +169,7 @@ module _ (rates : List ℕ) where
       ap₂ (λ (c : Chan) (z : Iso). withLine l c z d) (frame-left rates l w n b (d .clock) (chanAt l d) q t) (iso-frame-left rates l w n b (d .clock) (isoAt l d) q t) ∙ withLine-same l d
 
   refused-left : (d : Device) (e : Event) → EightChannels d → Left d e (step rates d e)
-  unfolding ownAnswer raw-box.ownAnswer says lentBy remembers speaker
+  unfolding ownAnswer raw-step.ownAnswer says lentBy remembers speaker
   refused-left d (connect l p f r) w = by (connected l p) refl
     where
       by : (o : Option ℕ) → connected l p ≡ o → Left d (connect l p f r) (step rates d (connect l p f r))

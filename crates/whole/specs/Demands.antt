@@ -11,7 +11,7 @@ use Rattle.codec.specs.Plain.{if_then_else_}
 use Rattle.machine.specs.Limits.{lines}
 use Rattle.machine.specs.Codes.{stepCodes}
 use Rattle.machine.specs.Channel.{Call, getParameter, setParameter, getList, setList, Pairs, flat, Answer, notes, says}
-use Rattle.machine.specs.Device.{Event, connect, call, frame, advance, close}
+use Rattle.machine.specs.Step.{Event, connect, call, frame, advance, close}
 unfoldable pub use Rattle.machine.specs.Demands.{results, pairCodes, didPart, partDone, refusal}
 use Rattle.iso.specs.Iso.{isoNotes}
 use Rattle.whole.specs.Device.{Device, Any, raw, iso, anyAt, channels, connected, step, run, answers}

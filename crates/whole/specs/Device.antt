@@ -8,8 +8,8 @@ use lib.Dec.{eqb, ltb}
 use Rattle.codec.specs.Plain.{if_then_else_, within}
 use Rattle.machine.specs.Limits.{lines, canProtocol}
 use Rattle.machine.specs.Channel.{Chan, closed, Call, Answer, says, connectCode}
-use Rattle.machine.specs.Device as raw-box
-use Rattle.machine.specs.Device.{Event, connect, call, frame, advance, close, chanStep, clockAfter}
+use Rattle.machine.specs.Step as raw-step
+use Rattle.machine.specs.Step.{Event, connect, call, frame, advance, close, chanStep, clockAfter}
 use Rattle.iso.specs.Limits.{isoProtocol}
 use Rattle.iso.specs.Iso.{Iso, shut, isoConnectCode}
 use Rattle.iso.specs.Step.{isoStep}
@@ -75,10 +75,10 @@ speaker close = none
 unfoldable pub ownAnswer : List ℕ → Event → Answer
 ownAnswer rates (connect l p f r) =
     says (if eqb p isoProtocol then isoConnectCode rates p f r ((true, 0x13) ∷ []) else connectCode rates p f r ((true, 0x13) ∷ [])) 0 []
-ownAnswer rates (call k x) = raw-box.ownAnswer rates (call k x)
-ownAnswer rates (frame l w n b) = raw-box.ownAnswer rates (frame l w n b)
-ownAnswer rates (advance t) = raw-box.ownAnswer rates (advance t)
-ownAnswer rates close = raw-box.ownAnswer rates close
+ownAnswer rates (call k x) = raw-step.ownAnswer rates (call k x)
+ownAnswer rates (frame l w n b) = raw-step.ownAnswer rates (frame l w n b)
+ownAnswer rates (advance t) = raw-step.ownAnswer rates (advance t)
+ownAnswer rates close = raw-step.ownAnswer rates close
 
 -- what an event does to a channel of either kind that it touches, and what that channel says where it is the speaker
 unfoldable pub anyStep : List ℕ → ℕ → Any → Event → Any × Answer

@@ -4,7 +4,7 @@ use borrow.Author.Needs.{needs}
 use borrow.Author.Tests.{not-true, not-false}
 use Rattle.codec.proofs.Tests.{true-T}
 use Rattle.machine.specs.Channel.{lent}
-use Rattle.machine.specs.Device.{lentBy}
+use Rattle.machine.specs.Step.{lentBy}
 use Rattle.memory.proofs.Rows.{not-valid}
 use Rattle.device_channels.proofs.set_with.Statement.{statement}
 use Rattle.device_channels.proofs.set_with.Tie as tie

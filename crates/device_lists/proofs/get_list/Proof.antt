@@ -56,7 +56,7 @@ use Rattle.codes.proofs.Answer.Laws as B′
 use Rattle.machine.specs.Codes.{twoRates}
 use Rattle.machine.specs.Limits.{mostPairs}
 use Rattle.machine.specs.Channel.{flat, getParameter, getList}
-use Rattle.machine.specs.Device.{call}
+use Rattle.machine.specs.Step.{call}
 use Rattle.layout.specs.Promise.{Result, gives}
 use Rattle.memory.specs.Promise.{outcome}
 use Rattle.memory.proofs.Lists.{Ready, placed-ready}

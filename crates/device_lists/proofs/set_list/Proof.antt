@@ -51,7 +51,7 @@ use denote.Triple.Walked.{says, Stays, stay-none, stay-none-slice, stay-slice, w
 use Rattle.machine.specs.Codes.{twoRates}
 use Rattle.machine.specs.Limits.{mostPairs}
 use Rattle.machine.specs.Channel.{setParameter, setList}
-use Rattle.machine.specs.Device.{call}
+use Rattle.machine.specs.Step.{call}
 use Rattle.layout.specs.Promise.{Result, gives}
 use Rattle.memory.specs.Promise.{outcome}
 use Rattle.memory.proofs.Lists.{Ready, placed-ready}

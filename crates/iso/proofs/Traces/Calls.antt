@@ -3,7 +3,7 @@ use mathlib.Core.Path.{refl}
 use mathlib.Core.List.{[], _∷_, _++_}
 use lib.ListN.{replicate}
 use Rattle.machine.specs.Channel.{says, disconnect, startFilter, startFlow, stopFilter, startPeriodic, stopPeriodic, write, read, takeNext, sent, clear, getParameter, setParameter, lastError, getList, setList, flat}
-use Rattle.machine.specs.Device.{connect, call, frame, advance, close}
+use Rattle.machine.specs.Step.{connect, call, frame, advance, close}
 use Rattle.iso.proofs.Traces.Words.{_⇒_, answered, Happens, asTold, HappensNow, asToldNow, done, gives, code, room, raw536, message6, lent6, got6, told6, talk, took, tookNone, count}
 
 -- example 1, as far as it is this channel's: the tests of a connect in order, its own rate, parameters, disconnect and close

@@ -2,7 +2,7 @@
 use mathlib.Core.Path.{refl}
 use mathlib.Core.List.{[], _∷_, _++_}
 use Rattle.machine.specs.Channel.{says, stopFilter, write, read, sent, clear}
-use Rattle.machine.specs.Device.{connect, call, frame, advance}
+use Rattle.machine.specs.Step.{connect, call, frame, advance}
 use Rattle.iso.proofs.Traces.Words.{_⇒_, answered, Happens, asTold, done, gives, room, lent6, got6, told6, talk, took, tookNone, count}
 
 -- two conversations at once: flow frames first, that of filter 1 before that of filter 2; a single frame goes though its conversation receives; one

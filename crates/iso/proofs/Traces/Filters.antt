@@ -3,7 +3,7 @@ use mathlib.Core.Path.{refl}
 use mathlib.Core.List.{[], _∷_, _++_}
 use lib.ListN.{replicate}
 use Rattle.machine.specs.Channel.{says, startFlow, stopFilter, write, read, takeNext, sent, clear, setParameter}
-use Rattle.machine.specs.Device.{connect, call, frame}
+use Rattle.machine.specs.Step.{connect, call, frame}
 use Rattle.iso.proofs.Traces.Words.{_⇒_, answered, Happens, asTold, done, gives, code, room, raw536, message6, lent6, got6, told6, talk, took, tookNone, count}
 
 -- a bad filter, by its first fault: type, protocol of mask, pattern and flow, then sizes, mask, TxFlags, width and range

@@ -3,7 +3,7 @@ use mathlib.Core.Path.{_≡_, refl}
 use Prim.Native.Nat.{_+_, _*_}
 use mathlib.Core.List.{[], _∷_, _++_, map}
 use Rattle.machine.specs.Channel.{says, read, sent, clear}
-use Rattle.machine.specs.Device.{connect, call, frame, advance}
+use Rattle.machine.specs.Step.{connect, call, frame, advance}
 use Rattle.iso.specs.Iso.{numberAfter}
 use Rattle.iso.proofs.Traces.Words.{_⇒_, answered, Happens, asTold, done, gives, code, room, each, got6, told6, talk, took, tookNone, count}
 

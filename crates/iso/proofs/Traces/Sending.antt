@@ -4,7 +4,7 @@ use Prim.Native.Nat.{_+_, _*_, _%_, _-_}
 use mathlib.Core.List.{[], _∷_, _++_, map}
 use lib.ListN.{replicate}
 use Rattle.machine.specs.Channel.{says, write, read, sent, clear, setParameter}
-use Rattle.machine.specs.Device.{connect, call, frame, advance}
+use Rattle.machine.specs.Step.{connect, call, frame, advance}
 use Rattle.codec.specs.Plain.{within}
 use Rattle.iso.specs.Iso.{gapOf}
 use Rattle.iso.proofs.Traces.Words.{_⇒_, answered, Happens, asTold, done, gives, code, room, each, raw536, lent6, got6, told6, talk, took, tookNone, count, wheel}

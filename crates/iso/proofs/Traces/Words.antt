@@ -10,7 +10,7 @@ use Rattle.machine.specs.Codes.{codeOf, threeRates, twoRates}
 use Rattle.machine.specs.Message.{bit, widthFlag, idBytes, idOf, idLimit, takes, protocolOf, txFlagsOf, sizeOf, wideOf, dataOf, clean, received}
 use Rattle.machine.specs.Filter.{free, taken, has, anySlot}
 use Rattle.machine.specs.Channel.{startFlow, takeNext, lent, Answer, says, frameCode, readCode, unlessStopped, flat, getIn, setIn, setAll, getAll, listCode, isFlags}
-use Rattle.machine.specs.Device.{Event, call, ownAnswer, clockAfter}
+use Rattle.machine.specs.Step.{Event, call, ownAnswer, clockAfter}
 pub use Rattle.machine.proofs.Traces.Words.{_⇒_, Story, done, gives, code, room, each}
 use Rattle.iso.specs.Iso.{shut, noTalks, setTalks, setConfig, setWritten, setFlight, setReceiving, setLast, turned, turnedSlot, turnEach, turnAt, news, newsAt, extraOf, padded, shownIso, shownIsoAll, shorterIso, unlessIso, did, numberAfter, framed, singleFrame, unSingle, firstFrame, nextFrame, flowFrame, gapOf, arriveIso, rxStart, arrived, txDone, becomes, ended, low, onSingle, onFirst, onNext, staged, onFlow, onConsecutive, onFlowOf, transmitting, listening, heard, airborne, airborneAt, ownerIn, flightIn, withTalks, onIsoFrame, laterStage, laterTransfer, onIsoAdvance, knows, talkCode, talkOf, onStartTalk, onStopTalk, isoMessageCode, carries, isoWriteCode, isoWriting, onIsoWrite, passing, giving, lowest, gives as given, answerOf, nextOf, segmentOf, startOf, starting, orElse, choice, showing, onChosen, isoTaking, onIsoTake, wholeOf, sentStage, sentOf, doneOf, landedTalks, messagesDone, doneRecords, isoSending, isoReading, onIsoRead, onIsoClear, onIsoGet, isoSetTo, onIsoSet, onIsoGetList, onIsoSetList, isoConnectCode, freshIso, isReady, onIsoConnect, onReady, onIsoCall, isoNotes, isoNoted, isoNotedInUse}
 use Rattle.iso.specs.Step.{isoStep, isoAnswer, isoAfter, isoRun, isoAnswers}

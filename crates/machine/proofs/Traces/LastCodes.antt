@@ -4,7 +4,7 @@ use Prim.Native.Nat.{_+_, _-_}
 use mathlib.Core.List.{[], _∷_, _++_}
 use lib.ListN.{replicate}
 use Rattle.machine.specs.Channel.{says, disconnect, stopFilter, write, read, takeNext, sent, clear, getParameter, setParameter, lastError}
-use Rattle.machine.specs.Device.{connect, call, frame, advance, close}
+use Rattle.machine.specs.Step.{connect, call, frame, advance, close}
 use Rattle.machine.proofs.Traces.Words.{_⇒_, answered, Happens, asTold, done, gives, code, room, message, got, everything, each}
 
 -- 0 after connect; a code other than 0x00 is kept, and 0x00 doesn't reset it; asking changes nothing, however often

@@ -3,7 +3,7 @@ use mathlib.Core.Path.{refl}
 use mathlib.Core.List.{[], _∷_}
 use lib.ListN.{replicate}
 use Rattle.machine.specs.Channel.{says, flat, getParameter, lastError, getList, setList}
-use Rattle.machine.specs.Device.{connect, call}
+use Rattle.machine.specs.Step.{connect, call}
 use Rattle.machine.proofs.Traces.Words.{_⇒_, answered, Happens, asTold, done, gives, code}
 
 -- the readings' examples, one after the other: what a set leaves that a pair ended, a get that a pair ended, a bad value, a parameter twice, none

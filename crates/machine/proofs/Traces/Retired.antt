@@ -3,7 +3,7 @@
 use mathlib.Core.Path.{refl}
 use mathlib.Core.List.{List, [], _∷_, _++_}
 use Rattle.machine.specs.Channel.{says, disconnect, write, read, takeNext, sent, getParameter, setParameter}
-use Rattle.machine.specs.Device.{Event, connect, call, frame, close}
+use Rattle.machine.specs.Step.{Event, connect, call, frame, close}
 use Rattle.machine.proofs.Traces.Words.{_⇒_, answered, Happens, HappensNow, asTold, asToldNow, done, gives, code, room, message, got, everything}
 
 -- "Connect answers 0x19 and set answers 0x05 for it", each in its place of the order; a refused one changes nothing

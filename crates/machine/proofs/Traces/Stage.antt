@@ -9,7 +9,7 @@ use lib.Dec.{eqb, ltb}
 use Rattle.codec.specs.Plain.{if_then_else_, within}
 use Rattle.machine.specs.Limits.{lines}
 use Rattle.machine.specs.Channel.{Chan, closed, Answer}
-use Rattle.machine.specs.Device.{Event, connect, call, frame, advance, close, ownAnswer, chanStep, clockAfter}
+use Rattle.machine.specs.Step.{Event, connect, call, frame, advance, close, ownAnswer, chanStep, clockAfter}
 
 pub record Stage : Type 0 where
   pub clock : ℕ

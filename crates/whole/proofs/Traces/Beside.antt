@@ -2,7 +2,7 @@
 use mathlib.Core.Path.{refl}
 use mathlib.Core.List.{[], _∷_, _++_}
 use Rattle.machine.specs.Channel.{says, disconnect, startFlow, stopFilter, write, read, takeNext, sent, getParameter, setParameter, lastError}
-use Rattle.machine.specs.Device.{connect, call, frame, advance, close}
+use Rattle.machine.specs.Step.{connect, call, frame, advance, close}
 use Rattle.whole.proofs.Traces.Words.{_⇒_, answered, Happens, asTold, done, gives, code, room, message, got, everything, message6, got6, told6, talk}
 
 -- example 1 of the readings: both channels of line 0, each its own rate; the second connect 0x14; the order of connect's codes; lines and protocols
