@@ -11,6 +11,7 @@ use borrow.Rule.Slice.PartMut.{putMid, midOf, same-len-mid}
 use Rattle.codec.specs.Plain.{member}
 use Rattle.codec.specs.Word.{word, wordAt}
 use Rattle.codec.specs.Code.{many}
+use Rattle.codec.proofs.Word.{word-part}
 use Rattle.machine.specs.Limits.{lines, mostAdvance}
 use Rattle.machine.specs.Codes.{codeOf}
 use Rattle.machine.specs.Channel.{Chan, Answer, says, onAdvance}
@@ -29,7 +30,7 @@ use Rattle.iso_layout.specs.Region.{isoRegion}
 use Rattle.iso_layout.proofs.Calls.{fine-iso-step}
 use Rattle.whole.specs.Device.{Device, ownAnswer}
 use Rattle.whole.proofs.Dispatch.{same-device, step-advance}
-use Rattle.memory.specs.Sizes.{isosAt}
+use Rattle.memory.specs.Sizes.{isosAt, boxSize}
 use Rattle.memory.specs.Memory.{image, load, valid}
 use Rattle.memory.specs.Promise.{outcome}
 use Rattle.memory.proofs.Memory.{valid-long}
@@ -77,6 +78,9 @@ module _ (rates m : List ℕ) (v : T (valid m)) where
         unfolding allRaws
         first-valid = moved-valid m v allRaws (onAdvance us) (advance-keeps us) ys ey
 
+        pub isos-end : boxSize ≤ length first
+        isos-end = let n = valid-long first first-valid in omega arith
+
         abbrev isos-there : List ℕ
         isos-there = midOf isosAt (lines * isoRegionSize) first
 
@@ -98,11 +102,10 @@ module _ (rates m : List ℕ) (v : T (valid m)) where
               moved-load first first-valid allIsos (onIsoAdvance us) (iso-advance-keeps us) zs ez
               ∙ ap (λ (d : Device). record { clock = d .clock; chans = d .chans; isos = map (onIsoAdvance us) (d .isos) }) (moved-load m v allRaws (onAdvance us) (advance-keeps us) ys ey)
 
-          pub advanced-long : (new : ℕ) (ws : List ℕ) → ws ≡ word new → length (putMid 0 numberSize second ws) ≡ length m
-          unfolding word
-          advanced-long new ws ew =
-              same-len-mid 0 numberSize second ws (ap length ew ∙ sym (length-take-le numberSize second (omega (arith, valid-long second second-valid)))) ∙ valid-long second second-valid ∙ sym (valid-long m v)
+          pub clock-ends : numberSize ≤ length second
+          clock-ends = let n = valid-long second second-valid in omega arith
 
+<<<<<<< HEAD
           pub advanced : (old new : ℕ) (ws : List ℕ) → old ≡ wordAt 0 m → new ≡ (old + us) % 0x1_0000_0000 → ws ≡ word new → gives 0 0 [] (putMid 0 numberSize second ws) ≡ outcome rates m (advance us)
           unfolding ownAnswer raw-step.ownAnswer codeOf says clockAfter
           advanced old new ws eo en ew =
@@ -113,3 +116,25 @@ module _ (rates m : List ℕ) (v : T (valid m)) where
               (ap (putMid 0 numberSize second) (ew ∙ ap word at) ∙ clock-put second second-valid k ∙ ap (λ (d : Device). image (record { clock = k; chans = d .chans; isos = d .isos })) second-load)
               ∙ by-step m v rates (advance us) after (says 0 0 [])
               (step-advance rates (load m) us ∙ ap₂ {C = Device × Answer} (λ d a. (d, a)) (same-device (rw (le-leb us mostAdvance h) refl) refl refl) (rw (le-ltb mostAdvance us h) refl))
+=======
+          pub clock-lent : length (midOf 0 numberSize second) ≡ numberSize
+          clock-lent = length-take-le numberSize second clock-ends
+
+          -- the clock put back
+          module _ (ws : List ℕ) (ew : ws ≡ word ((wordAt 0 (midOf 0 numberSize second) + us) % 0x1_0000_0000)) where
+            pub advanced-long : length (putMid 0 numberSize second ws) ≡ length m
+            unfolding word
+            advanced-long = same-len-mid 0 numberSize second ws (ap length ew ∙ sym clock-lent) ∙ valid-long second second-valid ∙ sym (valid-long m v)
+
+            pub advanced : gives 0 0 [] (putMid 0 numberSize second ws) ≡ outcome rates m (advance us)
+            unfolding ownAnswer raw-box.ownAnswer codeOf says clockAfter
+            advanced =
+                let k : ℕ = (load m .clock + us) % 0x1_0000_0000 in
+                let after : Device = record { clock = k; chans = map (onAdvance us) (load m .chans); isos = map (onIsoAdvance us) (load m .isos) } in
+                let old : wordAt 0 (midOf 0 numberSize second) ≡ load m .clock = word-part 0 second ∙ clock-is second second-valid ∙ ap (λ (d : Device). d .clock) second-load in
+                ap (λ (x : List ℕ). gives 0 0 [] x)
+                (ap (putMid 0 numberSize second) (ew ∙ ap (λ (x : ℕ). word ((x + us) % 0x1_0000_0000)) old) ∙ clock-put second second-valid k
+                ∙ ap (λ (d : Device). image (record { clock = k; chans = d .chans; isos = d .isos })) second-load)
+                ∙ by-step m v rates (advance us) after (says 0 0 [])
+                (step-advance rates (load m) us ∙ ap₂ {C = Device × Answer} (λ d a. (d, a)) (same-device (rw (le-leb us mostAdvance h) refl) refl refl) (rw (le-ltb mostAdvance us h) refl))
+>>>>>>> 50d44ca0117d7b51858582691d7832b3ff982510

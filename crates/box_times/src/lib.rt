@@ -1,14 +1,20 @@
 // Time that goes on, on a memory of the whole box that is known to be valid.
 ghost use mathlib.Core.Path.{_≡_};
 ghost use mathlib.Core.List.{List, [], map};
-ghost use Prim.Native.Nat.{ℕ, _*_, _≤_};
+ghost use Prim.Native.Nat.{ℕ, _+_, _*_, _%_, _≤_};
 ghost use lib.Dec.{T};
 ghost use lib.ListN.{length};
+ghost use Rattle.codec.specs.Word.{word, wordAt};
 ghost use Rattle.codec.specs.Code.{many};
 ghost use Rattle.machine.specs.Limits.{lines, mostAdvance};
 ghost use Rattle.machine.specs.Channel.{onAdvance};
+<<<<<<< HEAD
 ghost use Rattle.machine.specs.Step.{advance as advances};
 ghost use Rattle.layout.specs.Sizes.{regionSize};
+=======
+ghost use Rattle.machine.specs.Device.{advance as advances};
+ghost use Rattle.layout.specs.Sizes.{numberSize, regionSize};
+>>>>>>> 50d44ca0117d7b51858582691d7832b3ff982510
 ghost use Rattle.layout.specs.Memory.{region};
 ghost use Rattle.layout.specs.Promise.{gives};
 ghost use Rattle.iso.specs.Iso.{onIsoAdvance};
@@ -52,6 +58,15 @@ fn advance_isos(s: &mut [u8], us: u32)
     }
 }
 
+// The clock moves on.
+fn advance_clock(c: &mut [u8], us: u32)
+    requires { ⌜ length (now c) ≡ numberSize ⌝ }
+    ensures { λ u. ⌜ now (c .exit) ≡ word ((wordAt 0 (now (c .entry)) + us) % 0x1_0000_0000) ⌝ }
+{
+    let clock = Clock::at(integers::word_at(c, 0)).advance(us);
+    integers::put_word(c, clock.us);
+}
+
 // Time goes on, for the clock and every channel.
 pub fn advance(mem: &mut [u8], us: u32) -> u32
     requires { ⌜ T (valid (now mem)) ⌝ }
@@ -60,9 +75,8 @@ pub fn advance(mem: &mut [u8], us: u32) -> u32
     if us > MOST_ADVANCE {
         return codes::ERR_INVALID_TIME_INTERVAL;
     }
-    let clock = Clock::at(integers::word_at(mem, 0)).advance(us);
     advance_raws(&mut mem[REGIONS..ISO_REGIONS], us);
     advance_isos(&mut mem[ISO_REGIONS..BOX], us);
-    integers::put_word(&mut mem[0..NUMBER], clock.us);
+    advance_clock(&mut mem[0..NUMBER], us);
     codes::STATUS_NOERROR
 }
