@@ -105,18 +105,6 @@ module _ (rates m : List ℕ) (v : T (valid m)) where
           pub clock-ends : numberSize ≤ length second
           clock-ends = let n = valid-long second second-valid in omega arith
 
-<<<<<<< HEAD
-          pub advanced : (old new : ℕ) (ws : List ℕ) → old ≡ wordAt 0 m → new ≡ (old + us) % 0x1_0000_0000 → ws ≡ word new → gives 0 0 [] (putMid 0 numberSize second ws) ≡ outcome rates m (advance us)
-          unfolding ownAnswer raw-step.ownAnswer codeOf says clockAfter
-          advanced old new ws eo en ew =
-              let k : ℕ = (load m .clock + us) % 0x1_0000_0000 in
-              let after : Device = record { clock = k; chans = map (onAdvance us) (load m .chans); isos = map (onIsoAdvance us) (load m .isos) } in
-              let at : new ≡ k = en ∙ ap (λ (x : ℕ). (x + us) % 0x1_0000_0000) (eo ∙ clock-is m v) in
-              ap (λ (x : List ℕ). gives 0 0 [] x)
-              (ap (putMid 0 numberSize second) (ew ∙ ap word at) ∙ clock-put second second-valid k ∙ ap (λ (d : Device). image (record { clock = k; chans = d .chans; isos = d .isos })) second-load)
-              ∙ by-step m v rates (advance us) after (says 0 0 [])
-              (step-advance rates (load m) us ∙ ap₂ {C = Device × Answer} (λ d a. (d, a)) (same-device (rw (le-leb us mostAdvance h) refl) refl refl) (rw (le-ltb mostAdvance us h) refl))
-=======
           pub clock-lent : length (midOf 0 numberSize second) ≡ numberSize
           clock-lent = length-take-le numberSize second clock-ends
 
@@ -127,7 +115,7 @@ module _ (rates m : List ℕ) (v : T (valid m)) where
             advanced-long = same-len-mid 0 numberSize second ws (ap length ew ∙ sym clock-lent) ∙ valid-long second second-valid ∙ sym (valid-long m v)
 
             pub advanced : gives 0 0 [] (putMid 0 numberSize second ws) ≡ outcome rates m (advance us)
-            unfolding ownAnswer raw-box.ownAnswer codeOf says clockAfter
+            unfolding ownAnswer raw-step.ownAnswer codeOf says clockAfter
             advanced =
                 let k : ℕ = (load m .clock + us) % 0x1_0000_0000 in
                 let after : Device = record { clock = k; chans = map (onAdvance us) (load m .chans); isos = map (onIsoAdvance us) (load m .isos) } in
@@ -137,4 +125,3 @@ module _ (rates m : List ℕ) (v : T (valid m)) where
                 ∙ ap (λ (d : Device). image (record { clock = k; chans = d .chans; isos = d .isos })) second-load)
                 ∙ by-step m v rates (advance us) after (says 0 0 [])
                 (step-advance rates (load m) us ∙ ap₂ {C = Device × Answer} (λ d a. (d, a)) (same-device (rw (le-leb us mostAdvance h) refl) refl refl) (rw (le-ltb mostAdvance us h) refl))
->>>>>>> 50d44ca0117d7b51858582691d7832b3ff982510

@@ -8,13 +8,8 @@ ghost use Rattle.codec.specs.Word.{word, wordAt};
 ghost use Rattle.codec.specs.Code.{many};
 ghost use Rattle.machine.specs.Limits.{lines, mostAdvance};
 ghost use Rattle.machine.specs.Channel.{onAdvance};
-<<<<<<< HEAD
 ghost use Rattle.machine.specs.Step.{advance as advances};
-ghost use Rattle.layout.specs.Sizes.{regionSize};
-=======
-ghost use Rattle.machine.specs.Device.{advance as advances};
 ghost use Rattle.layout.specs.Sizes.{numberSize, regionSize};
->>>>>>> 50d44ca0117d7b51858582691d7832b3ff982510
 ghost use Rattle.layout.specs.Memory.{region};
 ghost use Rattle.layout.specs.Promise.{gives};
 ghost use Rattle.iso.specs.Iso.{onIsoAdvance};

@@ -2,16 +2,10 @@
 ghost use mathlib.Core.Path.{_≡_};
 ghost use mathlib.Core.List.{[]};
 ghost use Rattle.machine.specs.Codes.{twoRates};
-<<<<<<< HEAD
-ghost use Rattle.machine.specs.Channel.{startFilter, stopFilter, startPeriodic, stopPeriodic};
-ghost use Rattle.machine.specs.Step.{call};
-ghost use Rattle.layout.specs.Promise.{gives, outcome};
-=======
 ghost use Rattle.machine.specs.Channel.{startFilter, startFlow, stopFilter, startPeriodic, stopPeriodic};
-ghost use Rattle.machine.specs.Device.{call};
+ghost use Rattle.machine.specs.Step.{call};
 ghost use Rattle.layout.specs.Promise.{gives};
 ghost use Rattle.memory.specs.Promise.{outcome};
->>>>>>> f37fb3c11aa6b327cece177636b04d25b790a66c
 use codes::Answer;
 
 // A filter more; its number.

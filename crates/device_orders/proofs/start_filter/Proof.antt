@@ -5,13 +5,8 @@ use borrow.Author.Tests.{not-true, not-false}
 use Rattle.codec.proofs.Tests.{true-T}
 use Rattle.machine.specs.Channel.{lent}
 use Rattle.machine.specs.Codes.{twoRates}
-<<<<<<< HEAD
 use Rattle.machine.specs.Step.{lentBy}
-use Rattle.layout.proofs.Entry.{not-valid}
-=======
-use Rattle.machine.specs.Device.{lentBy}
 use Rattle.memory.proofs.Rows.{not-valid}
->>>>>>> f37fb3c11aa6b327cece177636b04d25b790a66c
 use Rattle.device_orders.proofs.start_filter.Statement.{statement}
 use Rattle.device_orders.proofs.start_filter.Tie as tie
 

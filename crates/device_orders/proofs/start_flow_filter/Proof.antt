@@ -5,7 +5,7 @@ use borrow.Author.Tests.{not-true, not-false}
 use Rattle.codec.proofs.Tests.{true-T}
 use Rattle.machine.specs.Channel.{lent}
 use Rattle.machine.specs.Codes.{twoRates}
-use Rattle.machine.specs.Device.{lentBy}
+use Rattle.machine.specs.Step.{lentBy}
 use Rattle.memory.proofs.Rows.{not-valid}
 use Rattle.device_orders.proofs.start_flow_filter.Statement.{statement}
 use Rattle.device_orders.proofs.start_flow_filter.Tie as tie
