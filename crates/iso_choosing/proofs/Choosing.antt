@@ -21,7 +21,7 @@ use Rattle.iso_layout.proofs.Good.{fli, GoodIso}
 use Rattle.iso_layout.proofs.Region.{readyOf, good, lies, talk-part}
 use Rattle.iso_giving.specs.Giving.{channelIn, chose, taking, Chose, answers, segments}
 use Rattle.iso_giving.proofs.Rules.{or-first, or-second, unmoved}
-use Rattle.iso_starting.specs.Starting.{Calm}
+use Rattle.iso_sending.specs.Starting.{Calm}
 
 -- ---- a conversation that transmits, by the kind of its transfer
 

@@ -35,5 +35,5 @@ pub fn choose(r: &mut [u8]) -> bool
     if transmits(r) {
         return iso_giving::segment(r);
     }
-    iso_starting::start(r)
+    iso_sending::start(r)
 }

@@ -24,7 +24,7 @@ use Rattle.iso_layout.proofs.Taking.{MayChoose, choice-ok}
 use Rattle.iso_layout.proofs.Region.{readyOf, is-ready, good, stays, lies, flight-part}
 use Rattle.iso_giving.specs.Giving.{channelIn, chose, taking, Chose}
 use Rattle.iso_giving.proofs.Rules.{unmoved}
-use Rattle.iso_starting.proofs.Starting.{chosen-open, chosen-there}
+use Rattle.iso_sending.proofs.Starting.{chosen-open, chosen-there}
 
 first-byte : (flags : ℕ) (x : Option Flight) → getD (slot (flightCode flags) .put x) 0 0 ≡ 0 → x ≡ none
 unfolding slot

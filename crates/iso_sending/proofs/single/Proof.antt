@@ -1,13 +1,13 @@
--- `iso_starting::single` meets its contract: the message goes, its frame flies. Assumes nothing.
+-- `iso_sending::single` meets its contract: the message goes, its frame flies. Assumes nothing.
 use mathlib.Core.Path.{_≡_}
 use native.Mathlib.Omega.{arith}
 use lib.ListN.{length}
 use Rattle.framing.specs.Data.{frameRoom}
 use Rattle.iso_giving.proofs.Flying.{lent-data, long-data}
-use Rattle.iso_starting.proofs.Starting.{held-long, held-few, some-held, single-room, single-starts}
+use Rattle.iso_sending.proofs.Starting.{held-long, held-few, some-held, single-room, single-starts}
 use borrow.Author.Needs.{needs}
-use Rattle.iso_starting.proofs.single.Statement.{statement}
-use Rattle.iso_starting.proofs.single.Tie as tie
+use Rattle.iso_sending.proofs.single.Statement.{statement}
+use Rattle.iso_sending.proofs.single.Tie as tie
 
 part-launch-end-2 : tie.Need-part-launch-end-2
 part-launch-end-2 c =

@@ -34,7 +34,7 @@ use Rattle.framing.proofs.Laws.{single-carries}
 use Rattle.iso_launching.specs.Launch.{messages, flown}
 use Rattle.iso_giving.specs.Giving.{channelIn, chose, taking, Chose, Rule, starts, Segmented, Startable}
 use Rattle.iso_giving.proofs.Rules.{Fair, fair-starts}
-use Rattle.iso_starting.specs.Starting.{HeldIn, Reads, OldestIs, Calm}
+use Rattle.iso_sending.specs.Starting.{HeldIn, Reads, OldestIs, Calm}
 
 -- ---- a channel with what was chosen can be held
 

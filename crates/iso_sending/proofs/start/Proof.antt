@@ -1,12 +1,12 @@
--- `iso_starting::start` meets its contract: no message, a single frame, a first frame. Assumes nothing.
+-- `iso_sending::start` meets its contract: no message, a single frame, a first frame. Assumes nothing.
 use mathlib.Core.Path.{_≡_}
 use native.Mathlib.Omega.{arith}
 use lib.ListN.{length}
 use Rattle.iso.specs.Limits.{mostPayload}
-use Rattle.iso_starting.proofs.Starting.{none-starts, held-in, oldest-lent, lent-long}
+use Rattle.iso_sending.proofs.Starting.{none-starts, held-in, oldest-lent, lent-long}
 use borrow.Author.Needs.{needs}
-use Rattle.iso_starting.proofs.start.Statement.{statement}
-use Rattle.iso_starting.proofs.start.Tie as tie
+use Rattle.iso_sending.proofs.start.Statement.{statement}
+use Rattle.iso_sending.proofs.start.Tie as tie
 
 returns : tie.Need-returns
 returns c = let start = c .before .before .before in none-starts (start .args .r .now) (start .pre .0) (c .if1 .taken)

@@ -24,7 +24,7 @@ use Rattle.iso_layout.proofs.Sizes.{messages-size}
 use Rattle.iso_layout.proofs.Lawful.{message-lawful}
 use Rattle.iso_layout.proofs.Held.{ToSend, sending-sound}
 use Rattle.iso_launching.specs.Launch.{messages}
-use Rattle.iso_starting.specs.Starting.{HeldIn, Reads}
+use Rattle.iso_sending.specs.Starting.{HeldIn, Reads}
 
 -- an identifier in front
 id-front : (b z : List ℕ) → 4 ≤ length b → idOf (b ++ z) ≡ idOf b

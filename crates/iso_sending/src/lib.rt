@@ -7,7 +7,7 @@ ghost use Rattle.iso.specs.Limits.{mostPayload, inSingle};
 ghost use Rattle.iso.specs.Iso.{starting};
 ghost use Rattle.iso_layout.specs.Promise.{IsoOpened};
 ghost use Rattle.iso_giving.specs.Giving.{channelIn, Chose};
-ghost use Rattle.iso_starting.specs.Starting.{HeldIn, Reads, OldestIs, Calm};
+ghost use Rattle.iso_sending.specs.Starting.{HeldIn, Reads, OldestIs, Calm};
 use framing::FRAME;
 use iso_places::FLIGHT;
 use iso_places::HEARD;

@@ -1,11 +1,11 @@
--- `iso_starting::oldest` meets its contract: numbers read, bytes copied. Assumes nothing.
+-- `iso_sending::oldest` meets its contract: numbers read, bytes copied. Assumes nothing.
 use mathlib.Core.Path.{ap}
 use Prim.Native.Nat.{ℕ, _-_}
 use native.Mathlib.Omega.{arith}
-use Rattle.iso_starting.proofs.Reading.{held-long, size-least, size-most, oldest-read}
+use Rattle.iso_sending.proofs.Reading.{held-long, size-least, size-most, oldest-read}
 use borrow.Author.Needs.{needs}
-use Rattle.iso_starting.proofs.oldest.Statement.{statement}
-use Rattle.iso_starting.proofs.oldest.Tie as tie
+use Rattle.iso_sending.proofs.oldest.Statement.{statement}
+use Rattle.iso_sending.proofs.oldest.Tie as tie
 
 word-at-requires : tie.Need-word-at-requires
 word-at-requires c κs = omega (arith, held-long (c .before .before .pre .0))

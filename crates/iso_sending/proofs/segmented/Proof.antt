@@ -1,9 +1,9 @@
--- `iso_starting::segmented` meets its contract: the frame flies, the message goes. Assumes nothing.
+-- `iso_sending::segmented` meets its contract: the frame flies, the message goes. Assumes nothing.
 use native.Mathlib.Omega.{arith}
-use Rattle.iso_starting.proofs.Starting.{held-long, held-few, some-held, dropped, startable, none-segmented, opened-then, oldest-then, segmented-starts}
+use Rattle.iso_sending.proofs.Starting.{held-long, held-few, some-held, dropped, startable, none-segmented, opened-then, oldest-then, segmented-starts}
 use borrow.Author.Needs.{needs}
-use Rattle.iso_starting.proofs.segmented.Statement.{statement}
-use Rattle.iso_starting.proofs.segmented.Tie as tie
+use Rattle.iso_sending.proofs.segmented.Statement.{statement}
+use Rattle.iso_sending.proofs.segmented.Tie as tie
 
 start-requires : tie.Need-start-requires
 start-requires c κs =
