@@ -1,6 +1,7 @@
 pub mod Memory
 pub mod Reach
 pub mod Rows
+pub mod Lines
 pub mod Entry
 pub mod Seats
 pub mod Isolation

@@ -54,7 +54,7 @@ pub record Row (C : Type 0) : Type 0 where
   pub fine : (d : Device) (i : ℕ) → T (memory .ok d) → T (code .ok (chan i d))
   pub place : (d : Device) (i : ℕ) → T (memory .ok d) → i < lines → Place memory code d (first + i * size) (chan i d) (λ c. put i c d)
 
-abbrev Regions : Code (List Chan × List Iso)
+abbrev pub Regions : Code (List Chan × List Iso)
 Regions = both (many lines region) (many lines isoRegion)
 
 -- the four raw regions lie behind the clock, the four others behind them
@@ -139,6 +139,19 @@ module _ (m : List ℕ) (v : T (valid m)) where
   pub unmoved : (rates : List ℕ) (e : Event) (a : Answer) → step rates (load m) e ≡ (load m, a) → answered a m ≡ outcome rates m e
   unmoved rates e a s = ap (λ (y : List ℕ). answered a y) (sym (image-load m v)) ∙ by-step rates e (load m) a s
 
+  -- ---- a part of the memory: its bytes, and the memory with other bytes there
+
+  module _ {B : Type 0} {c : Code B} {off : ℕ} {part : B} {with : B → Device} (p : Place memory c (load m) off part with) (long : length (c .put part) ≡ c .size) (n : ℕ) (is : c .size ≡ n) where
+    pub part-is : take n (drop off m) ≡ c .put part
+    part-is = ap₂ (λ (k : ℕ) (x : List ℕ). take k (drop off x)) (sym is) is-put ∙ slice-is p long
+
+    pub part-put : (b : B) → putMid off n m (c .put b) ≡ image (with b)
+    part-put b =
+        ap (λ (r : List ℕ). take off m ++ (c .put b ++ r)) (drop-drop n off m ∙ ap (λ (k : ℕ). drop (off + k) m) (sym is))
+        ∙ ap (λ (y : List ℕ). take off y ++ (c .put b ++ drop (off + c .size) y)) is-put
+        ∙ overwritten p long b
+        ∙ sym (memory-put (with b))
+
   -- ---- region i of a row
 
   module _ {C : Type 0} (w : Row C) (i : ℕ) (h : i < lines) where
@@ -149,9 +162,7 @@ module _ (m : List ℕ) (v : T (valid m)) where
     ok-here = w .fine (load m) i (ok-load m v)
 
     pub region-is : take (w .size) (drop begin m) ≡ w .code .put (w .chan i (load m))
-    region-is =
-        ap₂ (λ (n : ℕ) (x : List ℕ). take n (drop begin x)) (sym (w .size-is)) is-put
-        ∙ slice-is (w .place (load m) i (ok-load m v) h) (w .lawful .long (w .chan i (load m)) ok-here)
+    region-is = part-is (w .place (load m) i (ok-load m v) h) (w .lawful .long (w .chan i (load m)) ok-here) (w .size) (w .size-is)
 
     pub region-got : w .code .get (take (w .size) (drop begin m)) ≡ w .chan i (load m)
     region-got = ap (w .code .get) region-is ∙ w .lawful .get-put (w .chan i (load m)) ok-here
@@ -167,11 +178,7 @@ module _ (m : List ℕ) (v : T (valid m)) where
 
     -- the memory with another channel's bytes there
     pub put-back : (c : C) → putMid begin (w .size) m (w .code .put c) ≡ image (w .put i c (load m))
-    put-back c =
-        ap (λ (r : List ℕ). take begin m ++ (w .code .put c ++ r)) (drop-drop (w .size) begin m ∙ ap (λ (k : ℕ). drop (begin + k) m) (sym (w .size-is)))
-        ∙ ap (λ (y : List ℕ). take begin y ++ (w .code .put c ++ drop (begin + w .code .size) y)) is-put
-        ∙ overwritten (w .place (load m) i (ok-load m v) h) (w .lawful .long (w .chan i (load m)) ok-here) c
-        ∙ sym (memory-put (w .put i c (load m)))
+    put-back c = part-put (w .place (load m) i (ok-load m v) h) (w .lawful .long (w .chan i (load m)) ok-here) (w .size) (w .size-is) c
 
     -- THE LAW OF ENTRIES: what a function on the region shows is what the memory's promise says of an event that moves that channel alone
     pub entered : (rates : List ℕ) (e : Event) (x : C × Answer) → step rates (load m) e ≡ (w .put i (x .0) (load m), x .1) → (c u : ℕ) (b ys : List ℕ)
