@@ -10,23 +10,24 @@ use mathlib.Core.List.{List, [], _∷_, _++_}
 use lib.ListN.{length}
 use lib.Dec.{T, eqb}
 use borrow.Author.Tests.{eq-eqb, ne-eqb}
-use Rattle.codec.specs.Plain.{zeros}
-use Rattle.machine.specs.Channel.{Call}
+use Rattle.codec.specs.Plain.{zeros, member}
+use Rattle.machine.specs.Channel.{Call, Pairs, getList, setList}
 use Rattle.machine.specs.Step.{Event, call}
 use Rattle.layout.specs.Promise.{Result, gives, answerOf}
 use Rattle.layout.specs.Reach.{AllBytes}
 use Rattle.layout.proofs.Calls.{Known}
 use Rattle.layout.proofs.Tables.{by-test}
 use Rattle.whole.specs.Device.{channels, powerOn}
-use Rattle.whole.specs.Demands.{refusal, Apart, Names, byCall, SameToEach}
+use Rattle.whole.specs.Demands.{pairCodes, refusal, Apart, Names, byCall, SameToEach}
 use Rattle.whole.proofs.Isolation.{different-apart}
 use Rattle.memory.specs.Sizes.{boxSize}
 use Rattle.memory.specs.Memory.{memory, image, load, valid}
 use Rattle.memory.specs.Promise.{outcome, powerOnOutcome}
-use Rattle.memory.specs.Runs.{leaves, switchedOn, NothingElseChanged, AsMachine, Untouched, Commute, Reordered}
+use Rattle.memory.specs.Runs.{leaves, switchedOn, NothingElseChanged, SetListEnded, GetListEnded, AsMachine, Untouched, Commute, Reordered}
 use Rattle.memory.proofs.Memory.{memory-size, power-on-zeros, valid-image}
 use Rattle.memory.proofs.Reach.{power-on-ok}
 use Rattle.memory.proofs.Unique.{refusal-leaves, valid-answered}
+use Rattle.memory.proofs.Lists.{set-list-ended as set-ended, get-list-ended as get-ended}
 use Rattle.memory.proofs.Isolation.{image-runs, runs, stays-valid, struck, exchanged, rearranged}
 
 -- any bytes of the right size: done, and every byte is 0
@@ -59,6 +60,14 @@ module _ (rates : List ℕ) (known : Known rates) where
   pub refused-from-power-on : (bytes : List ℕ) (es : List Event) (e : Event)
       → refusal e (answerOf (outcome rates (leaves rates (switchedOn bytes) es) e)) ≡ true → NothingElseChanged rates (leaves rates (switchedOn bytes) es) e
   refused-from-power-on bytes es e = refused-changes-nothing-else (leaves rates (switchedOn bytes) es) e
+
+  -- a list of parameters that a pair ended (02, P2, amends the demand for lists only), on whatever bytes are lent as the memory: a set leaves what its
+  -- accepted pairs leave, a get leaves the refused pair and all behind it
+  pub set-list-ended : (m : List ℕ) (k : ℕ) (ps : Pairs) → member (outcome rates m (call k (setList ps)) .code) pairCodes ≡ true → SetListEnded rates m k ps
+  set-list-ended = set-ended rates known
+
+  pub get-list-ended : (m : List ℕ) (k : ℕ) (ps : Pairs) → member (outcome rates m (call k (getList ps)) .code) pairCodes ≡ true → GetListEnded rates m k ps
+  get-list-ended = get-ended rates known
 
   -- ---- DEMAND 2: every call gives the answer and leaves the memory of the plain machine
 
