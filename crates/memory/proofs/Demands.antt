@@ -11,11 +11,12 @@ use lib.ListN.{length}
 use lib.Dec.{T, eqb}
 use borrow.Author.Tests.{eq-eqb, ne-eqb}
 use Rattle.codec.specs.Plain.{zeros, member}
+use Rattle.machine.specs.Codes.{threeRates, twoRates}
 use Rattle.machine.specs.Channel.{Call, Pairs, getList, setList}
 use Rattle.machine.specs.Step.{Event, call}
 use Rattle.layout.specs.Promise.{Result, gives, answerOf}
 use Rattle.layout.specs.Reach.{AllBytes}
-use Rattle.layout.proofs.Calls.{Known}
+use Rattle.layout.proofs.Calls.{Known, three-known, two-known}
 use Rattle.layout.proofs.Tables.{by-test}
 use Rattle.whole.specs.Device.{channels, powerOn}
 use Rattle.whole.specs.Demands.{pairCodes, refusal, Apart, Names, byCall, SameToEach}
@@ -130,3 +131,16 @@ module _ (rates : List ℕ) (known : Known rates) where
   -- from power-on on
   pub reordered-from-power-on : (bytes : List ℕ) (es zs : List Event) → AllBytes es → AllBytes zs → SameToEach es zs → Reordered rates (switchedOn bytes) es zs
   reordered-from-power-on bytes = reordered (switchedOn bytes)
+
+-- ---- P12: 125,000 is retired
+
+-- "Memory holding the old rate stays valid": whatever calls with the three rates left, calls with the two of now keep valid
+pub old-rate-stays-valid : (bytes : List ℕ) → length bytes ≡ boxSize → (es zs : List Event) → AllBytes es → AllBytes zs
+    → T (valid (leaves twoRates (leaves threeRates (switchedOn bytes) es) zs))
+old-rate-stays-valid bytes right es zs b b′ =
+    stays-valid twoRates two-known (leaves threeRates (switchedOn bytes) es) (valid-from-power-on threeRates three-known bytes right es b) zs b′
+
+-- "and the channel runs": they are the machine's calls on the device that holds it
+pub old-rate-runs : (bytes : List ℕ) → length bytes ≡ boxSize → (es zs : List Event) → AllBytes es → AllBytes zs
+    → AsMachine twoRates (leaves threeRates (switchedOn bytes) es) (load (leaves threeRates (switchedOn bytes) es)) zs
+old-rate-runs bytes right es zs b = as-machine twoRates two-known (leaves threeRates (switchedOn bytes) es) (valid-from-power-on threeRates three-known bytes right es b) zs
