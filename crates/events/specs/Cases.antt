@@ -6,8 +6,8 @@ use mathlib.Core.Path.{_≡_}
 use lib.ListN.{replicate}
 use Rattle.codec.specs.Plain.{zeros}
 use Rattle.machine.specs.Channel.{startFilter, startFlow, startPeriodic, write, read, takeNext}
-use Rattle.machine.specs.Device as machine
-use Rattle.machine.specs.Device.{call}
+use Rattle.machine.specs.Step as machine
+use Rattle.machine.specs.Step.{call}
 use Rattle.events.specs.Events.{readEvent}
 use Rattle.events.specs.Values.{saidBy, readValues}
 use Rattle.events.specs.Found.{foundOf}
