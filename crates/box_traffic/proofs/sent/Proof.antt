@@ -7,7 +7,8 @@ use Rattle.machine.specs.Channel.{lent}
 use Rattle.layout.specs.Sizes.{regionSize}
 use Rattle.iso_layout.specs.Sizes.{isoRegionSize}
 use Rattle.memory.proofs.Seats.{raw-ends, raw-lent, raw-noted, raw-called, iso-ends, iso-lent, iso-noted, iso-called}
-use Rattle.box_traffic.proofs.Laws.{box-long, raw-at-clock, iso-at-clock}
+use Rattle.memory.proofs.Memory.{valid-long}
+use Rattle.box_traffic.proofs.Laws.{raw-at-clock, iso-at-clock}
 use borrow.Author.Needs.{needs}
 use Rattle.box_traffic.proofs.sent.Statement.{statement}
 use Rattle.box_traffic.proofs.sent.Tie as tie
@@ -52,7 +53,7 @@ sent-spec =
     (λ c κs. search needs)
     (λ c. search needs)
     (λ c rates. c .before .region-of .ensures .refused (c .if1 .taken) rates _)
-    (λ c κs. omega (arith, box-long _ (c .before .before .before .before .before .pre)))
+    (λ c κs. omega (arith, valid-long _ (c .before .before .before .before .before .pre)))
     (λ c. omega arith)
     (λ c. search needs)
     (λ c. search needs)
