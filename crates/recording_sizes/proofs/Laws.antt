@@ -1,7 +1,7 @@
 -- The bytes of a record by its channel's number. Assumes nothing.
 use Prim.Native.Nat.{ℕ, _≤_}
 use mathlib.Core.Bool.{Bool, true, false}
-use mathlib.Core.Path.{_≡_, refl, ap}
+use mathlib.Core.Path.{_≡_}
 use native.Mathlib.Omega.{arith}
 use Rattle.codec.specs.Plain.{if_then_else_}
 use Rattle.machine.specs.Limits.{recordSize}
@@ -18,15 +18,19 @@ module _ (channel : ℕ) where
   unfolding recordOn
   record-raw e = rw e
 
-  -- never more than 536
-  pub record-most : recordOn channel ≤ isoRecordSize
+  -- some bytes, and never more than 536
+  bounds : (1 ≤ recordOn channel) × (recordOn channel ≤ isoRecordSize)
   unfolding recordOn
-  record-most = go (onIso channel)
+  bounds = go (onIso channel)
     where
-      go : (b : Bool) → (if b then isoRecordSize else recordSize) ≤ isoRecordSize
-      go true = omega arith
-      go false = omega arith
+      go : (b : Bool) → (1 ≤ (if b then isoRecordSize else recordSize)) × ((if b then isoRecordSize else recordSize) ≤ isoRecordSize)
+      go true = (omega arith, omega arith)
+      go false = (omega arith, omega arith)
 
--- nor is a size that is a channel's
-pub record-fits : (channel : ℕ) {size : ℕ} → size ≡ recordOn channel → size ≤ isoRecordSize
-record-fits channel e = rw e (record-most channel)
+  -- so is a size that is the channel's
+  module _ {size : ℕ} (e : size ≡ recordOn channel) where
+    pub record-some : 1 ≤ size
+    record-some = rw e (bounds .0)
+
+    pub record-fits : size ≤ isoRecordSize
+    record-fits = rw e (bounds .1)

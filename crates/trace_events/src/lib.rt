@@ -2,6 +2,7 @@
 use codes::Answer;
 use events::Giving;
 use events::Plain;
+use trace_words::byte_at;
 use trace_words::bytes;
 use trace_words::code;
 use trace_words::hex;
@@ -11,11 +12,6 @@ use trace_words::part;
 use trace_words::records;
 use trace_words::text;
 use trace_words::two;
-
-// The byte at a place, 0 past the end.
-fn byte_at(record: &[u8], at: usize) -> u8 {
-    if at < record.len() { record[at] } else { 0 }
-}
 
 // The number of four bytes, the lowest first.
 fn word(a: u8, b: u8, c: u8, d: u8) -> u32 {
@@ -51,12 +47,9 @@ fn identifier(f: &[u8]) -> u32 {
     word(byte_at(f, 3), byte_at(f, 2), byte_at(f, 1), byte_at(f, 0))
 }
 
-// A message: its identifier, its data and its other fields.
-fn message(record: &[u8]) {
-    hex(
-        b"         identifier 0x",
-        identifier(part(record, 24, record.len())),
-    );
+// A message: its identifier behind a label, its data and its other fields.
+fn message(label: &[u8], record: &[u8]) {
+    hex(label, identifier(part(record, 24, record.len())));
     text(b", data");
     bytes(stored(record, 28));
     number(b", time ", field(record, 12));
@@ -64,19 +57,43 @@ fn message(record: &[u8]) {
     fields(record);
 }
 
-// A filter's mask or pattern: its bytes and its other fields.
+// A record, behind what it is by its RxStatus where that is told.
+fn record(told: bool, list: &[u8]) {
+    if told {
+        text(b"         ");
+        iso_words::record(field(list, 4));
+        message(b", identifier 0x", list);
+    } else {
+        message(b"         identifier 0x", list);
+    }
+}
+
+// A record that a take gave: which frame it is, where it is an ISO 15765 channel's.
+fn frame_record(channel: u32, list: &[u8]) {
+    if recording_sizes::on_iso(channel) {
+        text(b"         ");
+        iso_words::frame(stored(list, 28));
+        message(b", identifier 0x", list);
+    } else {
+        record(false, list);
+    }
+}
+
+// A filter's mask, pattern or flow: its bytes and its other fields.
 fn half(label: &[u8], record: &[u8]) {
     text(label);
     bytes(stored(record, 24));
     fields(record);
 }
 
-// Messages, one after the other.
-pub fn messages(records: &[u8]) {
+// The records of a channel, one after the other: lent, or given by it. What a record given is, an ISO 15765 channel tells by its RxStatus.
+fn channel_records(channel: u32, given: bool, list: &[u8]) {
+    let size = recording_sizes::record_on(channel);
+    let told = given & recording_sizes::on_iso(channel);
     let mut at = 0;
-    while at < records.len() {
-        message(part(records, at, at + recording_sizes::RECORD));
-        at += recording_sizes::RECORD;
+    while at < list.len() {
+        record(told, part(list, at, at + size));
+        at += size;
     }
 }
 
@@ -96,6 +113,21 @@ fn frame(line: u32, wide: u32, id: u32, list: &[u8]) {
     hex(b", identifier 0x", id);
     text(b", data");
     bytes(list);
+}
+
+// What the frame of an event is on an ISO 15765 channel of its line, on a line of its own; nothing of any other event.
+pub fn heard(recording: &[u8], e: Plain) {
+    if let Plain::Frame {
+        line: _,
+        wide: _,
+        id: _,
+        from,
+        end,
+    } = e {
+        text(b"         on ISO 15765: ");
+        iso_words::frame(part(recording, from, end));
+        text(b"\n");
+    }
 }
 
 // A channel and a parameter of it, behind a label.
@@ -152,7 +184,7 @@ pub fn plain(recording: &[u8], e: Plain) {
 // A connect.
 fn connect(line: u32, protocol: u32, flags: u32, rate: u32) {
     number(b"connect line ", line);
-    named(b", protocol ", protocol, b",,,,,CAN");
+    named(b", protocol ", protocol, b",,,,,CAN,ISO15765");
     hex(b", flags 0x", flags);
     number(b", ", rate);
     text(b" bit/s");
@@ -161,7 +193,11 @@ fn connect(line: u32, protocol: u32, flags: u32, rate: u32) {
 // A start of a filter.
 fn start_filter(channel: u32, kind: u32) {
     number(b"start filter, channel ", channel);
-    named(b", type ", kind, b",PASS_FILTER,BLOCK_FILTER");
+    named(
+        b", type ",
+        kind,
+        b",PASS_FILTER,BLOCK_FILTER,FLOW_CONTROL_FILTER",
+    );
 }
 
 // A start of a periodic.
@@ -179,6 +215,14 @@ pub fn giving(e: Giving) {
             kind,
             mask: _,
             pattern: _,
+            end: _,
+        } => start_filter(channel, kind),
+        Giving::StartFlow {
+            channel,
+            kind,
+            mask: _,
+            pattern: _,
+            flow: _,
             end: _,
         } => start_filter(channel, kind),
         Giving::StartPeriodic {
@@ -205,12 +249,24 @@ fn lent(recording: &[u8], e: Giving) {
             half(b"         mask", part(recording, mask, pattern));
             half(b"         pattern", part(recording, pattern, end));
         }
-        Giving::StartPeriodic {
+        Giving::StartFlow {
             channel: _,
+            kind: _,
+            mask,
+            pattern,
+            flow,
+            end,
+        } => {
+            half(b"         mask", part(recording, mask, pattern));
+            half(b"         pattern", part(recording, pattern, flow));
+            half(b"         flow", part(recording, flow, end));
+        }
+        Giving::StartPeriodic {
+            channel,
             from,
             end,
             interval: _,
-        } => messages(part(recording, from, end)),
+        } => channel_records(channel, false, part(recording, from, end)),
         Giving::Get(_, _) => (),
     }
 }
@@ -236,6 +292,14 @@ fn given(e: Giving, value: u32) {
             kind: _,
             mask: _,
             pattern: _,
+            end: _,
+        } => number(b", filter ", value),
+        Giving::StartFlow {
+            channel: _,
+            kind: _,
+            mask: _,
+            pattern: _,
+            flow: _,
             end: _,
         } => number(b", filter ", value),
         Giving::StartPeriodic {
@@ -271,10 +335,10 @@ pub fn write(channel: u32, n: u32) {
     records(b", ", n);
 }
 
-// The answer to a write, and its records.
-pub fn written(answer: Answer, list: &[u8]) {
+// The answer to a write on a channel, and its records.
+pub fn written(channel: u32, answer: Answer, list: &[u8]) {
     counted(answer);
-    messages(list);
+    channel_records(channel, false, list);
 }
 
 // A read.
@@ -283,10 +347,12 @@ pub fn read(channel: u32, n: u32) {
     records(b", ", n);
 }
 
-// The answer to a read, and the records that it gave.
-pub fn given_records(answer: Answer, buffer: &[u8]) {
+// The answer to a read of a channel, and the records that it gave.
+pub fn given_records(channel: u32, answer: Answer, buffer: &[u8]) {
     counted(answer);
-    messages(input::first(buffer, answer.value as usize * recording_sizes::RECORD));
+    let size = recording_sizes::record_on(channel);
+    let list = input::first(buffer, answer.value as usize * size);
+    channel_records(channel, true, list);
 }
 
 // A take.
@@ -294,10 +360,13 @@ pub fn take(channel: u32) {
     number(b"take, channel ", channel);
 }
 
-// The answer to a take, and the record to send.
-pub fn taken(n: u32, record: &[u8]) {
+// The answer to a take of a channel, and the record to send.
+pub fn taken(channel: u32, n: u32, buffer: &[u8]) {
     coded(n);
     if n == codes::STATUS_NOERROR {
-        messages(record);
+        frame_record(
+            channel,
+            input::first(buffer, recording_sizes::record_on(channel)),
+        );
     }
 }

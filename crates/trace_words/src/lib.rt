@@ -28,6 +28,16 @@ pub fn records(label: &[u8], n: u32) {
     }
 }
 
+// How many bytes, behind a label.
+pub fn sized(label: &[u8], n: u32) {
+    number(label, n);
+    if n == 1 {
+        text(b" byte");
+    } else {
+        text(b" bytes");
+    }
+}
+
 // A label and a number in hexadecimal.
 pub fn hex(label: &[u8], n: u32) {
     text(label);
@@ -47,6 +57,11 @@ pub fn bytes(list: &[u8]) {
         byte(list[i]);
         i += 1;
     }
+}
+
+// The byte at a place, 0 past the end.
+pub fn byte_at(list: &[u8], at: usize) -> u8 {
+    if at < list.len() { list[at] } else { 0 }
 }
 
 // The bytes from one place up to another, none where they are not all there.
@@ -110,7 +125,7 @@ pub fn code(n: u32) {
     io::print_hex(STDOUT_FILENO, n as u64, 2);
     name(
         n,
-        b"STATUS_NOERROR,ERR_NOT_SUPPORTED,ERR_INVALID_CHANNEL_ID,ERR_INVALID_PROTOCOL_ID,ERR_NULL_PARAMETER,ERR_INVALID_IOCTL_VALUE,ERR_INVALID_FLAGS,ERR_FAILED,,ERR_TIMEOUT,ERR_INVALID_MSG,ERR_INVALID_TIME_INTERVAL,ERR_EXCEEDED_LIMIT,ERR_INVALID_MSG_ID,,ERR_INVALID_IOCTL_ID,ERR_BUFFER_EMPTY,ERR_BUFFER_FULL,ERR_BUFFER_OVERFLOW,ERR_PIN_INVALID,ERR_CHANNEL_IN_USE,ERR_MSG_PROTOCOL_ID,ERR_INVALID_FILTER_ID,,,ERR_INVALID_BAUDRATE,ERR_INVALID_DEVICE_ID",
+        b"STATUS_NOERROR,ERR_NOT_SUPPORTED,ERR_INVALID_CHANNEL_ID,ERR_INVALID_PROTOCOL_ID,ERR_NULL_PARAMETER,ERR_INVALID_IOCTL_VALUE,ERR_INVALID_FLAGS,ERR_FAILED,,ERR_TIMEOUT,ERR_INVALID_MSG,ERR_INVALID_TIME_INTERVAL,ERR_EXCEEDED_LIMIT,ERR_INVALID_MSG_ID,,ERR_INVALID_IOCTL_ID,ERR_BUFFER_EMPTY,ERR_BUFFER_FULL,ERR_BUFFER_OVERFLOW,ERR_PIN_INVALID,ERR_CHANNEL_IN_USE,ERR_MSG_PROTOCOL_ID,ERR_INVALID_FILTER_ID,ERR_NO_FLOW_CONTROL,ERR_NOT_UNIQUE,ERR_INVALID_BAUDRATE,ERR_INVALID_DEVICE_ID",
     );
 }
 
