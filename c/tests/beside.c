@@ -12,31 +12,34 @@
 #endif
 
 #define SAME(name) typedef char same_##name[TRAWL_##name == (name) ? 1 : -1]
-SAME(CAN); SAME(ISO15765); SAME(FLOW_CONTROL_FILTER); SAME(START_OF_MESSAGE); SAME(TX_INDICATION); SAME(CAN_29BIT_ID); SAME(CAN_ID_BOTH); SAME(PASS_FILTER); SAME(BLOCK_FILTER); SAME(DATA_RATE); SAME(LOOPBACK); SAME(TX_MSG_TYPE);
+SAME(CAN); SAME(ISO15765); SAME(CAN_29BIT_ID); SAME(CAN_ID_BOTH); SAME(PASS_FILTER); SAME(BLOCK_FILTER); SAME(FLOW_CONTROL_FILTER);
+SAME(DATA_RATE); SAME(LOOPBACK); SAME(TX_MSG_TYPE); SAME(START_OF_MESSAGE); SAME(TX_INDICATION);
 SAME(STATUS_NOERROR); SAME(ERR_NOT_SUPPORTED); SAME(ERR_INVALID_CHANNEL_ID); SAME(ERR_INVALID_PROTOCOL_ID); SAME(ERR_NULL_PARAMETER);
 SAME(ERR_INVALID_IOCTL_VALUE); SAME(ERR_INVALID_FLAGS); SAME(ERR_FAILED); SAME(ERR_TIMEOUT); SAME(ERR_INVALID_MSG);
 SAME(ERR_INVALID_TIME_INTERVAL); SAME(ERR_EXCEEDED_LIMIT); SAME(ERR_INVALID_MSG_ID); SAME(ERR_INVALID_IOCTL_ID); SAME(ERR_BUFFER_EMPTY);
 SAME(ERR_BUFFER_FULL); SAME(ERR_BUFFER_OVERFLOW); SAME(ERR_PIN_INVALID); SAME(ERR_CHANNEL_IN_USE); SAME(ERR_MSG_PROTOCOL_ID);
-SAME(ERR_INVALID_FILTER_ID); SAME(ERR_NO_FLOW_CONTROL); SAME(ERR_NOT_UNIQUE); SAME(ERR_INVALID_BAUDRATE); SAME(ERR_INVALID_DEVICE_ID); SAME(CLEAR_TX_BUFFER); SAME(CLEAR_RX_BUFFER);
-SAME(CLEAR_PERIODIC_MSGS); SAME(CLEAR_MSG_FILTERS);
+SAME(ERR_INVALID_FILTER_ID); SAME(ERR_NO_FLOW_CONTROL); SAME(ERR_NOT_UNIQUE); SAME(ERR_INVALID_BAUDRATE); SAME(ERR_INVALID_DEVICE_ID);
+SAME(CLEAR_TX_BUFFER); SAME(CLEAR_RX_BUFFER); SAME(CLEAR_PERIODIC_MSGS); SAME(CLEAR_MSG_FILTERS);
 typedef char version_is_there[TRAWL_VERSION >= 50000 ? 1 : -1];
 
-/* what a box's DLL does between the two: a record that was read becomes J2534-1's message, a message becomes a record to write */
+/* what a box's DLL does between the two: a record that was read becomes J2534-1's message, a message becomes a record to write; of 36 bytes, or of
+ * 536 where the protocol is ISO 15765 */
 void to_message(PASSTHRU_MSG *to, const uint8_t *record);
 void to_message(PASSTHRU_MSG *to, const uint8_t *record) {
-    size_t i;
+    size_t i, n = trawl_record_protocol(record) == ISO15765 ? 512 : 12;
     to->ProtocolID = trawl_record_protocol(record);
     to->RxStatus = trawl_record_rx_status(record);
     to->TxFlags = trawl_record_tx_flags(record);
     to->Timestamp = trawl_record_time(record);
     to->DataSize = trawl_record_size(record);
     to->ExtraDataIndex = trawl_record_extra(record);
-    for (i = 0; i < 12; i++) to->Data[i] = record[24 + i];
+    for (i = 0; i < n; i++) to->Data[i] = record[24 + i];
 }
 
 void to_record(uint8_t *record, const PASSTHRU_MSG *from);
 void to_record(uint8_t *record, const PASSTHRU_MSG *from) {
-    trawl_record_bytes(record, (uint32_t)from->TxFlags, from->Data, from->DataSize);
+    if (from->ProtocolID == ISO15765) trawl_iso_record_bytes(record, (uint32_t)from->TxFlags, from->Data, from->DataSize);
+    else trawl_record_bytes(record, (uint32_t)from->TxFlags, from->Data, from->DataSize);
     trawl_store32(record, (uint32_t)from->ProtocolID);
 }
 
@@ -54,6 +57,27 @@ uint32_t config(uint8_t *memory, size_t length, uint32_t channel, unsigned long 
     code = trawl_get_list(memory, length, channel, pairs, n);
     for (i = 0; i < n; i++) list->ConfigPtr[i].Value = pairs[i].value;
     return code;
+}
+
+/* three bytes to 0x7DF on an ISO 15765 channel: one frame, TxDone, the echo; 0, or where it went wrong */
+int iso_message(uint8_t *memory, size_t length);
+int iso_message(uint8_t *memory, size_t length) {
+    static uint8_t records[2 * TRAWL_ISO_RECORD];
+    static PASSTHRU_MSG message;
+    uint32_t channel, count;
+    message.ProtocolID = ISO15765, message.TxFlags = 0, message.DataSize = 7;
+    message.Data[2] = 0x07, message.Data[3] = 0xDF, message.Data[4] = 0x01, message.Data[5] = 0x0C, message.Data[6] = 0x0D;
+    to_record(records, &message);
+    if (trawl_connect(memory, length, 3, ISO15765, 0, 500000, &channel) != STATUS_NOERROR || channel != 8) return 20;
+    if (trawl_set(memory, length, channel, LOOPBACK, 1) != STATUS_NOERROR) return 21;
+    if (trawl_write(memory, length, channel, 1, records, TRAWL_ISO_RECORD, &count) != STATUS_NOERROR || count != 1) return 22;
+    if (trawl_take(memory, length, channel, records, sizeof records) != STATUS_NOERROR || records[28] != 3) return 23;
+    if (trawl_sent(memory, length, channel) != STATUS_NOERROR) return 24;
+    if (trawl_read(memory, length, channel, 2, records, sizeof records, &count) != STATUS_NOERROR || count != 2) return 25;
+    to_message(&message, records);
+    if (message.RxStatus != (TX_INDICATION | TX_MSG_TYPE) || message.DataSize != 4 || message.ExtraDataIndex != 0) return 26;
+    to_message(&message, records + TRAWL_ISO_RECORD);
+    return message.RxStatus == TX_MSG_TYPE && message.DataSize == 7 && message.Data[6] == 0x0D ? 0 : 27;
 }
 
 /* the file is a program, so that C++ links the calls too */
@@ -84,5 +108,5 @@ int main(void) {
     if (trawl_clear(box, sizeof box, channel, trawl_clear_kind(CLEAR_RX_BUFFER)) != STATUS_NOERROR) return 9;
     if (trawl_clear(box, sizeof box, channel, CLEAR_RX_BUFFER) != ERR_INVALID_IOCTL_ID) return 10;
     if (trawl_last_error(box, sizeof box, channel, &last) != STATUS_NOERROR || last != ERR_INVALID_IOCTL_ID) return 11;
-    return 0;
+    return iso_message(box, sizeof box);
 }

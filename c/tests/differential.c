@@ -61,12 +61,14 @@ static void note(const event *e, reply r) {
     }
 }
 
-/* asked of every channel, and of two that are none, both give what was kept here; asking changes nothing */
+/* asked of the channel that was named, and each eighth time of every channel and of two that are none, both give what was kept here; asking changes
+ * nothing */
 static void ask(const event *e, uint64_t turn) {
     static uint8_t before[TRAWL_MEMORY];
     memcpy(before, core, TRAWL_MEMORY);
     for (uint32_t channel = 0; channel <= CHANNELS + 1; channel++) {
         int open = is_open(core, channel);
+        if (turn % 8 && channel != e->a) continue;
         uint32_t code = open ? 0x00 : 0x02, number = open ? last[channel] : 0, a = 77, b = 77;
         if (trawl_last_error(core, TRAWL_MEMORY, channel, &a) != code || a != number) fail("the last code, core", e, turn);
         if (twin_last_error(twin, TRAWL_MEMORY, channel, &b) != code || b != number) fail("the last code, twin", e, turn);
@@ -168,6 +170,57 @@ static void busy(void) {
     }
 }
 
+/* ---- conversations under way ---- */
+
+static void act(int kind, uint32_t channel, uint32_t number, size_t lends) {
+    static event e;
+    connect_event(&e, 0, 0, 0, 0);
+    e.kind = kind, e.a = channel, e.b = number;
+    lend(&e.first, lends);
+    if (kind == WRITE) record_at(bytes(&e.first), channel, 0, 0x242, 100);
+    both(&e, channel);
+}
+
+static void says(uint32_t channel, uint32_t identifier, const char *data, size_t n) {
+    static event e;
+    connect_event(&e, 0, 0, 0, 0);
+    e.kind = FRAME, e.a = channel - 5, e.b = 0, e.c = identifier;
+    lend(&e.first, n);
+    memcpy(bytes(&e.first), data, n);
+    both(&e, channel);
+}
+
+static void conversation(uint32_t channel, uint32_t k) {
+    static event e;
+    connect_event(&e, 0, 0, 0, 0);
+    e.kind = START_FLOW, e.a = channel, e.b = 3;
+    lend(&e.first, TRAWL_ISO_RECORD), lend(&e.second, TRAWL_ISO_RECORD), lend(&e.third, TRAWL_ISO_RECORD);
+    record_at(bytes(&e.first), channel, 0, 0xFFFFFFFF, 0);
+    record_at(bytes(&e.second), channel, 0, 0x641 + k, 0);
+    record_at(bytes(&e.third), channel, 0, 0x241 + k, 0);
+    if (both(&e, channel).code != 0) fail("a conversation", &e, channel);
+}
+
+/* channels 5 to 8 anew: one conversation receives; the other sends, in blocks and with a pause, and on every other channel has a frame in flight */
+static void converse(void) {
+    static event e;
+    for (uint32_t channel = 5; channel <= CHANNELS; channel++) {
+        act(DISCONNECT, channel, 0, 0);
+        connect_event(&e, channel - 5, 6, 0x800, 500000), both(&e, channel);
+        conversation(channel, 0), conversation(channel, 1);
+        says(channel, 0x641, "\x10\x64\1\2\3\4\5\6", 8);
+        act(WRITE, channel, 1, TRAWL_ISO_RECORD);
+        for (int k = 0; k < 2; k++) act(TAKE, channel, 0, TRAWL_ISO_RECORD), act(SENT, channel, 0, 0); /* go on; a first frame */
+        says(channel, 0x641, "\x21\7\1\2\3\4\5\6", 8);
+        says(channel, 0x642, "\x30\x09\x05", 3);
+        act(TAKE, channel, 0, TRAWL_ISO_RECORD), act(SENT, channel, 0, 0);
+        act(WRITE, channel, 1, TRAWL_ISO_RECORD);
+        if (channel % 2 == 0) continue;
+        act(ADVANCE, 5000, 0, 0), act(TAKE, channel, 0, TRAWL_ISO_RECORD);
+        if (!core[region_of(channel)]) fail("a channel in the middle of things", NULL, channel);
+    }
+}
+
 /* ---- damaged memories ---- */
 
 static void same_verdict(size_t length, const char *what, uint64_t turn) {
@@ -223,8 +276,9 @@ static int in_numbers(size_t at) { return at < 42 || (at >= 550 && at < 582) || 
 static void each_iso_limit(void) {
     static const uint32_t limits[] = {0, 1, 2, 4, 5, 6, 7, 8, 9, 13, 255, 256, 257, 508, 509, 512, 513, 900, 1100, 127000, 128000, 999999, 1000000};
     for (uint32_t channel = 5; channel <= CHANNELS; channel++)
-        for (size_t at = 1; at + 4 <= region_size(channel); at += in_numbers(at) ? 1 : 97) {
+        for (size_t at = 1; at + 4 <= region_size(channel); at++) {
             uint8_t *p = core + region_of(channel) + at, was[4];
+            if (!in_numbers(at) && at % 97) continue;
             memcpy(was, p, 4);
             for (size_t k = 0; k < sizeof limits / sizeof *limits; k++) {
                 trawl_store32(p, limits[k]);
@@ -282,6 +336,7 @@ static void random_bytes(void) {
 static void damaged(uint32_t rounds) {
     for (uint32_t r = 0; r < rounds; r++) {
         busy();
+        converse();
         each_byte();
         each_limit();
         each_iso_limit();
@@ -412,7 +467,7 @@ int main(int argc, char **argv) {
     isolation(20 * rounds);
     for (int k = 1; k <= KINDS; k++)
         for (int c = 0; c < 0x20; c++) total += counted[k][c], codes += counted[k][c] != 0;
-    printf("core and twin agree: %lu calls, %lu pairs of call and code, the last code of each channel after each, %lu channels made to hold 125,000, "
+    printf("core and twin agree: %lu calls, %lu pairs of call and code, last codes, %lu channels made to hold 125,000, "
            "verdicts on damaged memories, short buffers, lists, isolation\n",
            total, codes, olds);
     return 0;

@@ -41,13 +41,13 @@ use Rattle.memory.proofs.Entry.{Kind, rawKind, isoKind, marked-here, noted-imag
 
 -- ---- a connect that names no channel
 
--- the tests of the line come into play where the others give no code
+-- a connect of either protocol passes the same tests behind that of its protocol
 same-tests : (rates : List ℕ) (f r : ℕ) (more : List (Bool × ℕ)) → isoConnectCode rates isoProtocol f r more ≡ connectCode rates canProtocol f r more
 unfolding isoConnectCode connectCode codeOf
 same-tests rates f r more = refl
 
 module _ (rates : List ℕ) (p f r : ℕ) where
-  -- of either protocol: the same tests, with one number or another
+  -- so that its tests are a raw connect's, of the raw protocol where it is ISO 15765
   as-raw : (more : List (Bool × ℕ)) → (b : Bool) → eqb p isoProtocol ≡ b
       → (if b then isoConnectCode rates p f r more else connectCode rates p f r more) ≡ connectCode rates (if b then canProtocol else p) f r more
   as-raw more true q = ap (λ (n : ℕ). isoConnectCode rates n f r more) (eqb-true p isoProtocol q) ∙ same-tests rates f r more

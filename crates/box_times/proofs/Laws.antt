@@ -34,7 +34,7 @@ use Rattle.memory.specs.Sizes.{isosAt, boxSize}
 use Rattle.memory.specs.Memory.{image, load, valid}
 use Rattle.memory.specs.Promise.{outcome}
 use Rattle.memory.proofs.Memory.{valid-long}
-use Rattle.memory.proofs.Rows.{by-step, unmoved}
+use Rattle.memory.proofs.Rows.{raws, isos, by-step, unmoved}
 use Rattle.memory.proofs.Lines.{allRaws, allIsos, clock-is, clock-put, row-lent, moved-valid, moved-load}
 
 -- ---- what keeps what a region can hold
@@ -67,7 +67,7 @@ module _ (rates m : List ℕ) (v : T (valid m)) where
       raws-there = midOf numberSize (lines * regionSize) m
 
       pub raws-lent : (length raws-there ≡ lines * regionSize) × T (many lines region .valid raws-there) × (us ≤ mostAdvance)
-      unfolding allRaws
+      unfolding allRaws raws
       raws-lent = let p = row-lent m v allRaws in (p .0, p .1, h)
 
       module _ (ys : List ℕ) (ey : ys ≡ many lines region .put (map (onAdvance us) (many lines region .get raws-there))) where
@@ -75,7 +75,7 @@ module _ (rates m : List ℕ) (v : T (valid m)) where
         first = putMid numberSize (lines * regionSize) m ys
 
         first-valid : T (valid first)
-        unfolding allRaws
+        unfolding allRaws raws
         first-valid = moved-valid m v allRaws (onAdvance us) (advance-keeps us) ys ey
 
         pub isos-end : boxSize ≤ length first
@@ -85,7 +85,7 @@ module _ (rates m : List ℕ) (v : T (valid m)) where
         isos-there = midOf isosAt (lines * isoRegionSize) first
 
         pub isos-lent : (length isos-there ≡ lines * isoRegionSize) × T (many lines isoRegion .valid isos-there) × (us ≤ mostAdvance)
-        unfolding allIsos
+        unfolding allIsos isos
         isos-lent = let p = row-lent first first-valid allIsos in (p .0, p .1, h)
 
         module _ (zs : List ℕ) (ez : zs ≡ many lines isoRegion .put (map (onIsoAdvance us) (many lines isoRegion .get isos-there))) where
@@ -93,11 +93,11 @@ module _ (rates m : List ℕ) (v : T (valid m)) where
           second = putMid isosAt (lines * isoRegionSize) first zs
 
           second-valid : T (valid second)
-          unfolding allIsos
+          unfolding allIsos isos
           second-valid = moved-valid first first-valid allIsos (onIsoAdvance us) (iso-advance-keeps us) zs ez
 
           second-load : load second ≡ record { clock = load m .clock; chans = map (onAdvance us) (load m .chans); isos = map (onIsoAdvance us) (load m .isos) }
-          unfolding allRaws allIsos
+          unfolding allRaws allIsos raws isos
           second-load =
               moved-load first first-valid allIsos (onIsoAdvance us) (iso-advance-keeps us) zs ez
               ∙ ap (λ (d : Device). record { clock = d .clock; chans = d .chans; isos = map (onIsoAdvance us) (d .isos) }) (moved-load m v allRaws (onAdvance us) (advance-keeps us) ys ey)

@@ -5,6 +5,8 @@ ghost use Prim.Native.Nat.{ℕ};
 ghost use lib.Dec.{T};
 ghost use Rattle.machine.specs.Channel.{write as writes};
 ghost use Rattle.machine.specs.Channel.{read as reads};
+ghost use Rattle.machine.specs.Channel.{takeNext};
+ghost use Rattle.machine.specs.Channel.{sent as sentOf};
 ghost use Rattle.machine.specs.Step.{call};
 ghost use Rattle.layout.specs.Promise.{gives};
 ghost use Rattle.memory.specs.Memory.{valid};
@@ -54,4 +56,43 @@ pub fn read(mem: &mut [u8], channel: u32, n: u32, buffer: &mut [u8]) -> Answer
     let answer = iso_reading::read_in(&mut mem[a..a + iso_places::REGION], n, buffer);
     iso_settings::note(mem, a, answer.code);
     answer
+}
+
+// The frame to send next, to a buffer; it stays in flight.
+pub fn take(mem: &mut [u8], channel: u32, buffer: &mut [u8]) -> u32
+    requires { ⌜ T (valid (now mem)) ⌝ }
+    ensures { λ c. ⌜ ((rates : List ℕ) → gives c 0 (now (buffer .exit)) (now (mem .exit)) ≡ outcome rates (now (mem .entry)) (call channel (takeNext (now (buffer .entry))))) ⌝ }
+{
+    let a = seats::region_of(mem, channel);
+    if a == 0 {
+        return codes::ERR_INVALID_CHANNEL_ID;
+    }
+    if a < ISO_REGIONS {
+        let code = taking::take(&mut mem[a..a + places::REGION], buffer);
+        noting::note(mem, a, code);
+        return code;
+    }
+    let code = iso_taking::take(&mut mem[a..a + iso_places::REGION], buffer);
+    iso_settings::note(mem, a, code);
+    code
+}
+
+// The frame in flight is on the line.
+pub fn sent(mem: &mut [u8], channel: u32) -> u32
+    requires { ⌜ T (valid (now mem)) ⌝ }
+    ensures { λ c. ⌜ ((rates : List ℕ) → gives c 0 [] (now (mem .exit)) ≡ outcome rates (now (mem .entry)) (call channel sentOf)) ⌝ }
+{
+    let a = seats::region_of(mem, channel);
+    if a == 0 {
+        return codes::ERR_INVALID_CHANNEL_ID;
+    }
+    let now = integers::word_at(mem, 0);
+    if a < ISO_REGIONS {
+        let code = landing::sent(&mut mem[a..a + places::REGION], now);
+        noting::note(mem, a, code);
+        return code;
+    }
+    let code = iso_landing::sent(&mut mem[a..a + iso_places::REGION], now);
+    iso_settings::note(mem, a, code);
+    code
 }

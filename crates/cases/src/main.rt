@@ -1,4 +1,4 @@
-// Replays recordings whose answers were worked out by hand from the scope, before any program ran them, and prints for each whether the
+// Replays recordings whose answers were worked out by hand from the scope and the requests, before any program ran them, and prints for each whether the
 // answers are as expected. The last line says how many are. The recording of a case is the file NAME.rec and its answers NAME.out, both in
 // the folder that the program is run in. They lie in data/, where INDEX.md says what each case shows; `./replay --cases` runs it there.
 mod difference;
@@ -29,7 +29,7 @@ fn replay(mem: &mut [u8], recording: &[u8], out: &mut [u8]) -> usize {
 
 // Replays a recording, prints whether its answers are as expected or what differs, and says whether they are.
 fn replays_to(recording: &[u8], expected: &[u8]) -> bool {
-    let mut mem = [0u8; places::MEMORY];
+    let mut mem = [0u8; box_places::BOX];
     let mut out = [0u8; ANSWERS];
     let length = replay(&mut mem, recording, &mut out);
     let answers = input::first(&out, length);
@@ -106,17 +106,22 @@ fn run(names: &[u8]) {
 }
 
 // Runs every case: those that the scope names, then those of recordings as such, connecting, starting filters, matching, the queue, writing,
-// taking, the longest recordings, and editions.
+// taking, ISO 15765 channels, the longest recordings, and editions.
 fn main() {
     run(
         b"whole-example lost-full-read periodic-case \
         empty bad-cut-record bad-event-17 bad-long-form bad-number-2-32 n-64 n-65-read \
-        connect-four connect-order configuration channel-0x02 \
+        connect-four p3-connect-order configuration channel-0x02 \
         filter-numbers filter-order filter-widths \
         filter-block filter-pattern-unmasked filter-short-frame p1-short-frame p1-block frame-order width-800 \
         read-codes lost-read-of-0 loopback four-channels \
         write-counts write-bad-without-room \
         periodic-from-start take-order clear-kinds \
+        p3-connect p3-closed p3-filter-codes p3-filter-unique p3-write-codes \
+        p3-single p3-receive p3-send p3-longest-sent p3-overflow \
+        p3-replaced p3-late-reception p3-late-flow p3-block-size p3-separation \
+        p3-two-conversations p3-half-duplex p3-queue p3-stop-filter \
+        p3-clear p3-beside-raw p3-wide \
         size-32768 size-32769 \
         p12-edition-2 p12-no-edition p12-order p12-old-rate p12-alone p12-late p12-twice p12-twice-late \
         p12-bad-0 p12-bad-1 p12-bad-3 p12-bad-300 p12-cut-short p12-bad-long-form p12-long-event \

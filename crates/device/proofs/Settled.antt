@@ -1,4 +1,4 @@
--- ANY TWO OUTCOMES OF A PUBLIC CALL ARE EQUAL: said of each of the 20 calls, of connect and set with rates that are lent, and of the look at the
+-- ANY TWO OUTCOMES OF A PUBLIC CALL ARE EQUAL: said of each of the 21 calls, of connect and set with rates that are lent, and of the look at the
 -- memory, over the very postcondition that the function is proved to meet.
 -- An outcome is what the function returns and what it leaves in the memory and in a lent buffer. Assumes nothing.
 use mathlib.Core.Path.{sym, ap, _∙_}
@@ -12,8 +12,8 @@ use Rattle.layout.specs.Promise.{Result}
 use Rattle.device_lists.specs.declared.Pair.{Pair}
 use Rattle.device_lists.specs.Lists.{SetPost, GetPost}
 use Rattle.device_lists.proofs.Settled as lists
-use Rattle.validity.proofs.valid.Kinds as valid-kinds
-use Rattle.validity.proofs.valid.Reads as valid
+use Rattle.box_validity.proofs.valid.Kinds as valid-kinds
+use Rattle.box_validity.proofs.valid.Reads as valid
 use Rattle.device_channels.proofs.connect.Kinds as connect-kinds
 use Rattle.device_channels.proofs.connect.Reads as connect
 use Rattle.device_channels.proofs.connect_with.Kinds as connect-with-kinds
@@ -32,6 +32,8 @@ use Rattle.device_channels.proofs.clear.Kinds as clear-kinds
 use Rattle.device_channels.proofs.clear.Reads as clear
 use Rattle.device_orders.proofs.start_filter.Kinds as start-filter-kinds
 use Rattle.device_orders.proofs.start_filter.Reads as start-filter
+use Rattle.device_orders.proofs.start_flow_filter.Kinds as start-flow-filter-kinds
+use Rattle.device_orders.proofs.start_flow_filter.Reads as start-flow-filter
 use Rattle.device_orders.proofs.stop_filter.Kinds as stop-filter-kinds
 use Rattle.device_orders.proofs.stop_filter.Reads as stop-filter
 use Rattle.device_orders.proofs.start_periodic.Kinds as start-periodic-kinds
@@ -93,6 +95,9 @@ clear-settled κs a x y p q = ap (λ (s : Result). (s .code, (s .memory, x .1 .1
 
 pub start-filter-settled : OneOutcome 3 start-filter-kinds.ps start-filter-kinds.r start-filter.Post
 start-filter-settled κs a x y p q = ap (λ (s : Result). (record { code = s .code; value = s .value }, (s .memory, x .1 .1))) (p ∙ sym q)
+
+pub start-flow-filter-settled : OneOutcome 4 start-flow-filter-kinds.ps start-flow-filter-kinds.r start-flow-filter.Post
+start-flow-filter-settled κs a x y p q = ap (λ (s : Result). (record { code = s .code; value = s .value }, (s .memory, x .1 .1))) (p ∙ sym q)
 
 pub stop-filter-settled : OneOutcome 1 stop-filter-kinds.ps stop-filter-kinds.r stop-filter.Post
 stop-filter-settled κs a x y p q = ap (λ (s : Result). (s .code, (s .memory, x .1 .1))) (p ∙ sym q)

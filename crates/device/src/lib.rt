@@ -1,5 +1,7 @@
-// The 20 public calls of the box, on any bytes that are lent as its memory: each looks at the memory first, then does the call. The look itself
+// The 21 public calls of the box, on any bytes that are lent as its memory: each looks at the memory first, then does the call. The look itself
 // is `valid`.
+pub use box_places::BOX as MEMORY;
+pub use box_validity::valid;
 pub use device_channels::clear;
 pub use device_channels::connect;
 pub use device_channels::disconnect;
@@ -14,6 +16,7 @@ pub use device_lists::Pair;
 pub use device_lists::get_list;
 pub use device_lists::set_list;
 pub use device_orders::start_filter;
+pub use device_orders::start_flow_filter;
 pub use device_orders::start_periodic;
 pub use device_orders::stop_filter;
 pub use device_orders::stop_periodic;
@@ -21,5 +24,3 @@ pub use device_traffic::read;
 pub use device_traffic::sent;
 pub use device_traffic::take;
 pub use device_traffic::write;
-pub use places::MEMORY;
-pub use validity::valid;

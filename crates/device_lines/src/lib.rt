@@ -5,14 +5,15 @@ ghost use Rattle.machine.specs.Codes.{twoRates};
 ghost use Rattle.machine.specs.Step.{close as closes};
 ghost use Rattle.machine.specs.Step.{advance as advances};
 ghost use Rattle.machine.specs.Step.{frame as framed};
-ghost use Rattle.layout.specs.Promise.{gives, outcome, powerOnOutcome};
-use places::MEMORY;
+ghost use Rattle.layout.specs.Promise.{gives};
+ghost use Rattle.memory.specs.Promise.{outcome, powerOnOutcome};
+use box_places::BOX;
 
 // Any bytes of the right size become the memory of a box just switched on.
 pub fn power_on(mem: &mut [u8]) -> u32
     ensures { λ c. ⌜ gives c 0 [] (now (mem .exit)) ≡ powerOnOutcome (now (mem .entry)) ⌝ }
 {
-    if mem.len() != MEMORY {
+    if mem.len() != BOX {
         return codes::ERR_INVALID_DEVICE_ID;
     }
     octets::zero(mem);
@@ -23,28 +24,28 @@ pub fn power_on(mem: &mut [u8]) -> u32
 pub fn close(mem: &mut [u8]) -> u32
     ensures { λ c. ⌜ gives c 0 [] (now (mem .exit)) ≡ outcome twoRates (now (mem .entry)) closes ⌝ }
 {
-    if !validity::valid(mem) {
+    if !box_validity::valid(mem) {
         return codes::ERR_INVALID_DEVICE_ID;
     }
-    owned_lines::close(mem)
+    box_lines::close(mem)
 }
 
-// Time goes on, for the clock and every periodic.
+// Time goes on, for the clock and every channel.
 pub fn advance(mem: &mut [u8], us: u32) -> u32
     ensures { λ c. ⌜ gives c 0 [] (now (mem .exit)) ≡ outcome twoRates (now (mem .entry)) (advances us) ⌝ }
 {
-    if !validity::valid(mem) {
+    if !box_validity::valid(mem) {
         return codes::ERR_INVALID_DEVICE_ID;
     }
-    owned_lines::advance(mem, us)
+    box_times::advance(mem, us)
 }
 
-// A frame from a line, offered to the line's channel.
+// A frame from a line, offered to both of the line's channels.
 pub fn frame(mem: &mut [u8], line: u32, wide: u32, id: u32, bytes: &[u8]) -> u32
     ensures { λ c. ⌜ gives c 0 [] (now (mem .exit)) ≡ outcome twoRates (now (mem .entry)) (framed line wide id (now (bytes .entry))) ⌝ }
 {
-    if !validity::valid(mem) {
+    if !box_validity::valid(mem) {
         return codes::ERR_INVALID_DEVICE_ID;
     }
-    owned_lines::frame(mem, line, wide, id, bytes)
+    box_frames::frame(mem, line, wide, id, bytes)
 }

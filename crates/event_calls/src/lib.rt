@@ -1,9 +1,10 @@
-// The call that an event makes on a device memory known to be valid.
+// The call that an event makes on a memory of the whole box that is known to be valid.
 ghost use mathlib.Core.Path.{_≡_};
 ghost use mathlib.Core.List.{[]};
 ghost use lib.Dec.{T};
-ghost use Rattle.layout.specs.Memory.{valid};
-ghost use Rattle.layout.specs.Promise.{gives, outcome};
+ghost use Rattle.layout.specs.Promise.{gives};
+ghost use Rattle.memory.specs.Memory.{valid};
+ghost use Rattle.memory.specs.Promise.{outcome};
 ghost use Rattle.events.specs.Found.{plainOf, givingOf, PlainThere, GivingThere};
 use codes::Answer;
 use events::Giving;
@@ -54,6 +55,21 @@ pub fn giving_answer(mem: &mut [u8], rates: &[u32], recording: &[u8], e: Giving)
             kind,
             &recording[mask..pattern],
             &recording[pattern..end],
+        ),
+        Giving::StartFlow {
+            channel,
+            kind,
+            mask,
+            pattern,
+            flow,
+            end,
+        } => owned::start_flow_filter(
+            mem,
+            channel,
+            kind,
+            &recording[mask..pattern],
+            &recording[pattern..flow],
+            &recording[flow..end],
         ),
         Giving::StartPeriodic {
             channel,

@@ -2,3 +2,4 @@
 pub mod Events
 pub mod Values
 pub mod Found
+pub mod Cases

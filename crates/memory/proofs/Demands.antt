@@ -9,7 +9,7 @@ use mathlib.Core.Bool.{true}
 use mathlib.Core.List.{List, [], _∷_, _++_}
 use lib.ListN.{length}
 use lib.Dec.{T, eqb}
-use borrow.Author.Tests.{eq-eqb}
+use borrow.Author.Tests.{eq-eqb, ne-eqb}
 use Rattle.codec.specs.Plain.{zeros, member}
 use Rattle.machine.specs.Codes.{threeRates, twoRates}
 use Rattle.machine.specs.Channel.{Call, Pairs, getList, setList}
@@ -32,9 +32,14 @@ use Rattle.memory.proofs.Lists.{set-list-ended as set-ended, get-list-e
 use Rattle.memory.proofs.Isolation.{image-runs, runs, stays-valid, struck, exchanged, rearranged}
 
 -- any bytes of the right size: done, and every byte is 0
-started : (m : List ℕ) → length m ≡ boxSize → powerOnOutcome m ≡ gives 0x00 0 [] (zeros boxSize)
+pub started : (m : List ℕ) → length m ≡ boxSize → powerOnOutcome m ≡ gives 0x00 0 [] (zeros boxSize)
 unfolding powerOnOutcome
 started m h = rw (eq-eqb (length m) (memory .size) (h ∙ sym memory-size)) (ap (gives 0x00 0 []) power-on-zeros)
+
+-- any others: 0x1A, and they stay
+pub not-started : (m : List ℕ) → length m ≢ boxSize → powerOnOutcome m ≡ gives 0x1A 0 [] m
+unfolding powerOnOutcome
+not-started m h = rw (ne-eqb (length m) (memory .size) (λ e. h (e ∙ memory-size)))
 
 -- power-on, called on any bytes of the right size, leaves the memory of a box with nothing open and clock 0, which is zeros
 pub switched-on : (bytes : List ℕ) → length bytes ≡ boxSize → switchedOn bytes ≡ zeros boxSize

@@ -1,13 +1,13 @@
 -- WHAT CONCERNS A LINE OR THE WHOLE BOX: the clock, a whole row of regions, all regions together and the two regions of a line as parts of the memory, and
 -- the memory with other bytes there. A loop over a row moves each of its channels. Assumes nothing.
 use mathlib.Core.Path.{_≡_, refl, sym, ap, ap₂, _∙_, subst}
-use Prim.Native.Nat.{ℕ, zero, suc, _+_, _*_, _-_, _≤_, _<_}
+use Prim.Native.Nat.{ℕ, suc, _+_, _*_, _-_, _<_}
 use native.Mathlib.Nat.{zero-mul, suc-mul, add-comm}
 use native.Mathlib.Omega.{arith}
 use mathlib.Core.List.{List, [], _∷_, _++_, map}
 use lib.ListN.{length, take, drop, length-map}
 use lib.Dec.{T}
-use borrow.Rule.Slice.PartMut.{putMid, midOf}
+use borrow.Rule.Slice.PartMut.{putMid}
 use Rattle.codec.specs.Plain.{zeros, all}
 use Rattle.codec.specs.Word.{word, wordAt}
 use Rattle.codec.specs.Code.{Code, word32, both, via, many, putAll}
@@ -20,7 +20,7 @@ use Rattle.codec.proofs.Word.{word-part}
 use Rattle.machine.specs.Limits.{lines}
 use Rattle.machine.specs.Channel.{Chan, closed}
 use Rattle.layout.specs.Memory.{region}
-use Rattle.layout.specs.Sizes.{numberSize, regionSize, regionsSize}
+use Rattle.layout.specs.Sizes.{numberSize, regionSize}
 use Rattle.layout.proofs.Memory.{region-lawful}
 use Rattle.layout.proofs.Sizes.{region-size, closed-zeros}
 use Rattle.iso.specs.Iso.{Iso, shut}
@@ -30,11 +30,11 @@ use Rattle.iso_layout.proofs.Lawful.{isoRegion-lawful}
 use Rattle.iso_layout.proofs.Sizes.{isoRegion-size, shut-zeros}
 use Rattle.whole.specs.Device.{Device, isoAt}
 use Rattle.whole.proofs.Dispatch.{withChan, withIso, withLine}
-use Rattle.memory.specs.Sizes.{rawAt, isosAt, isoAtByte, boxSize}
+use Rattle.memory.specs.Sizes.{rawAt, isoAtByte, boxSize}
 use Rattle.memory.specs.Memory.{deviceParts, deviceBack, memory, image, load, valid}
 use Rattle.memory.proofs.Memory.{load-image, valid-image, ok-load}
-use Rattle.memory.proofs.Reach.{Sane, chans-ok, isos-ok, ok-sane, sane-ok}
-use Rattle.memory.proofs.Rows.{Regions, raws, isos, raws-size, clock-place, part-is, part-put, put-back}
+use Rattle.memory.proofs.Reach.{chans-ok, isos-ok, ok-sane, sane-ok}
+use Rattle.memory.proofs.Rows.{Row, Regions, raws, isos, raws-size, clock-place, part-is, part-put, put-back}
 
 -- ---- a loop that moves every channel of a row, one a turn
 
@@ -68,16 +68,12 @@ module _ {C : Type 0} {code : Code C} (l : Lawful code) (size : ℕ) (es : code 
 -- ---- a whole row of regions, as a part of the memory
 
 pub record Whole (C : Type 0) : Type 0 where
-  pub code : Code C
-  pub lawful : Lawful code
-  pub size : ℕ
-  pub size-is : code .size ≡ size
-  pub first : ℕ
+  pub row : Row C
   pub held : Device → List C
   pub with : List C → Device → Device
-  pub fine : (d : Device) → T (memory .ok d) → T (many lines code .ok (held d))
-  pub keeps : (d : Device) → T (memory .ok d) → (cs : List C) → T (many lines code .ok cs) → T (memory .ok (with cs d))
-  pub place : (d : Device) → T (memory .ok d) → Place memory (many lines code) d first (held d) (λ cs. with cs d)
+  pub fine : (d : Device) → T (memory .ok d) → T (many lines (row .code) .ok (held d))
+  pub keeps : (d : Device) → T (memory .ok d) → (cs : List C) → T (many lines (row .code) .ok cs) → T (memory .ok (with cs d))
+  pub place : (d : Device) → T (memory .ok d) → Place memory (many lines (row .code)) d (row .first) (held d) (λ cs. with cs d)
 
 pub regions-place : (d : Device) → Place memory Regions d numberSize (d .chans, d .isos) (λ p. record { clock = d .clock; chans = p .0; isos = p .1 })
 unfolding memory word word32
@@ -88,13 +84,10 @@ unfolding memory via
 regions-ok d t = both-second word32 Regions (deviceParts d) t
 
 unfoldable pub allRaws : Whole Chan
+unfolding raws
 allRaws =
     record {
-      code = region;
-      lawful = region-lawful;
-      size = regionSize;
-      size-is = region-size;
-      first = numberSize;
+      row = raws;
       held = λ d. d .chans;
       with = λ cs d. record { clock = d .clock; chans = cs; isos = d .isos };
       fine = chans-ok;
@@ -107,13 +100,10 @@ allRaws =
     }
 
 unfoldable pub allIsos : Whole Iso
+unfolding isos
 allIsos =
     record {
-      code = isoRegion;
-      lawful = isoRegion-lawful;
-      size = isoRegionSize;
-      size-is = isoRegion-size;
-      first = isosAt;
+      row = isos;
       held = λ d. d .isos;
       with = λ cs d. record { clock = d .clock; chans = d .chans; isos = cs };
       fine = isos-ok;
@@ -147,56 +137,56 @@ module _ (m : List ℕ) (v : T (valid m)) where
   clock-put t = part-put m v (clock-place (load m)) refl numberSize refl t
 
   module _ {C : Type 0} (w : Whole C) where
-    abbrev row : Code (List C)
-    row = many lines (w .code)
+    abbrev codes : Code (List C)
+    codes = many lines (w .row .code)
 
     abbrev span : ℕ
-    span = lines * w .size
+    span = lines * w .row .size
 
     abbrev there : List ℕ
-    there = take span (drop (w .first) m)
+    there = take span (drop (w .row .first) m)
 
-    row-size : row .size ≡ span
+    row-size : codes .size ≡ span
     unfolding many
-    row-size = ap (λ (k : ℕ). lines * k) (w .size-is)
+    row-size = ap (λ (k : ℕ). lines * k) (w .row .size-is)
 
-    here-ok : T (row .ok (w .held (load m)))
+    here-ok : T (codes .ok (w .held (load m)))
     here-ok = w .fine (load m) (ok-load m v)
 
-    here-long : length (row .put (w .held (load m))) ≡ row .size
-    here-long = many-lawful (w .lawful) lines .long (w .held (load m)) here-ok
+    here-long : length (codes .put (w .held (load m))) ≡ codes .size
+    here-long = many-lawful (w .row .lawful) lines .long (w .held (load m)) here-ok
 
-    row-is : there ≡ row .put (w .held (load m))
+    row-is : there ≡ codes .put (w .held (load m))
     row-is = part-is m v (w .place (load m) (ok-load m v)) here-long span row-size
 
     -- the row as it is lent
-    pub row-lent : (length there ≡ span) × T (row .valid there)
+    pub row-lent : (length there ≡ span) × T (codes .valid there)
     row-lent =
-        subst (λ (x : List ℕ). (length x ≡ span) × T (row .valid x)) (sym row-is) (here-long ∙ row-size, many-lawful (w .lawful) lines .valid-put (w .held (load m)) here-ok)
+        subst (λ (x : List ℕ). (length x ≡ span) × T (codes .valid x)) (sym row-is) (here-long ∙ row-size, many-lawful (w .row .lawful) lines .valid-put (w .held (load m)) here-ok)
 
-    pub row-got : row .get there ≡ w .held (load m)
-    row-got = ap (row .get) row-is ∙ many-lawful (w .lawful) lines .get-put (w .held (load m)) here-ok
+    pub row-got : codes .get there ≡ w .held (load m)
+    row-got = ap (codes .get) row-is ∙ many-lawful (w .row .lawful) lines .get-put (w .held (load m)) here-ok
 
     -- every channel moved: the memory is the box with those channels, and valid
-    module _ (f : C → C) (keep : (x : C) → T (w .code .ok x) → T (w .code .ok (f x))) (ys : List ℕ) (e : ys ≡ row .put (map f (row .get there))) where
+    module _ (f : C → C) (keep : (x : C) → T (w .row .code .ok x) → T (w .row .code .ok (f x))) (ys : List ℕ) (e : ys ≡ codes .put (map f (codes .get there))) where
       abbrev moved : Device
       moved = w .with (map f (w .held (load m))) (load m)
 
-      pub row-moved : putMid (w .first) span m ys ≡ image moved
+      pub row-moved : putMid (w .row .first) span m ys ≡ image moved
       row-moved =
-          ap (putMid (w .first) span m) (e ∙ ap (λ (cs : List C). row .put (map f cs)) row-got)
+          ap (putMid (w .row .first) span m) (e ∙ ap (λ (cs : List C). codes .put (map f cs)) row-got)
           ∙ part-put m v (w .place (load m) (ok-load m v)) here-long span row-size (map f (w .held (load m)))
 
       moved-ok : T (memory .ok moved)
       moved-ok =
           w .keeps (load m) (ok-load m v) (map f (w .held (load m)))
-          (many-make lines (w .code) (map f (w .held (load m))) (length-map (w .held (load m)) f ∙ many-count lines (w .code) (w .held (load m)) here-ok)
-          (all-map (w .code .ok) f keep (w .held (load m)) (many-each lines (w .code) (w .held (load m)) here-ok)))
+          (many-make lines (w .row .code) (map f (w .held (load m))) (length-map (w .held (load m)) f ∙ many-count lines (w .row .code) (w .held (load m)) here-ok)
+          (all-map (w .row .code .ok) f keep (w .held (load m)) (many-each lines (w .row .code) (w .held (load m)) here-ok)))
 
-      pub moved-valid : T (valid (putMid (w .first) span m ys))
+      pub moved-valid : T (valid (putMid (w .row .first) span m ys))
       moved-valid = subst (λ (x : List ℕ). T (valid x)) (sym row-moved) (valid-image moved moved-ok)
 
-      pub moved-load : load (putMid (w .first) span m ys) ≡ moved
+      pub moved-load : load (putMid (w .row .first) span m ys) ≡ moved
       moved-load = ap load row-moved ∙ load-image moved moved-ok
 
   -- zeros over all regions
@@ -225,7 +215,7 @@ module _ (m : List ℕ) (v : T (valid m)) where
     raw-back = ap (putMid (rawAt i) regionSize m) e ∙ put-back m v raws i h c
 
     raw-ok : T (memory .ok (withChan i c (load m)))
-    unfolding allRaws
+    unfolding allRaws raws
     raw-ok = allRaws .keeps (load m) (ok-load m v) _ (many-set lines region (load m .chans) i c (chans-ok (load m) (ok-load m v)) fine)
 
     pub raw-valid : T (valid once)

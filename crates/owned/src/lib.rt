@@ -1,17 +1,18 @@
-// Every call on a device memory that is known to be valid: for callers that own it since power-on. Same promises as the public calls.
-pub use owned_channels::clear;
-pub use owned_channels::connect;
-pub use owned_channels::disconnect;
-pub use owned_channels::get;
-pub use owned_channels::set;
-pub use owned_lines::advance;
-pub use owned_lines::close;
-pub use owned_lines::frame;
-pub use owned_orders::start_filter;
-pub use owned_orders::start_periodic;
-pub use owned_orders::stop_filter;
-pub use owned_orders::stop_periodic;
-pub use owned_traffic::read;
-pub use owned_traffic::sent;
-pub use owned_traffic::take;
-pub use owned_traffic::write;
+// Every call on a memory of the whole box that is known to be valid: for callers that own it since power-on. Same promises as the public calls.
+pub use box_channels::clear;
+pub use box_channels::disconnect;
+pub use box_channels::get;
+pub use box_channels::set;
+pub use box_connecting::connect;
+pub use box_frames::frame;
+pub use box_lines::close;
+pub use box_orders::start_filter;
+pub use box_orders::start_flow_filter;
+pub use box_orders::start_periodic;
+pub use box_orders::stop_filter;
+pub use box_orders::stop_periodic;
+pub use box_times::advance;
+pub use box_traffic::read;
+pub use box_traffic::sent;
+pub use box_traffic::take;
+pub use box_traffic::write;

@@ -8,9 +8,11 @@ use borrow.Author.Tests.{eqb-true}
 use lib.Dec.{T, eqb, ltb, ltb→lt}
 use Rattle.codec.proofs.Tests.{left, right}
 use Rattle.codec.specs.Plain.{member, all}
-use Rattle.machine.specs.Codes.{stepCodes, table}
-use Rattle.machine.specs.Step.{Device, Event, step}
-use Rattle.machine.proofs.Refusals.{codes-in-table}
+use Rattle.machine.specs.Codes.{stepCodes}
+use Rattle.machine.specs.Step.{Event}
+use Rattle.whole.specs.Device.{Device, step}
+use Rattle.whole.specs.Demands.{boxCodes, boxTable}
+use Rattle.whole.proofs.Refusals.{codes-in-table}
 use Rattle.number.specs.Number.{bytesOf}
 use Rattle.number.proofs.Laws.{groups-one}
 
@@ -30,5 +32,5 @@ below-128 (k ∷ codes) h c m = go (below-128 codes (right (ltb k 128) _ h) c) (
 
 -- a code is one
 pub small-code : (rates : List ℕ) (d : Device) (e : Event) → step rates d e .1 .code < 128
-unfolding table stepCodes
-small-code rates d e = below-128 table tt (step rates d e .1 .code) (codes-in-table rates d e)
+unfolding boxTable boxCodes stepCodes
+small-code rates d e = below-128 boxTable tt (step rates d e .1 .code) (codes-in-table rates d e)

@@ -44,6 +44,7 @@ module _ (s : List ℕ) (t : T (all isByte s)) where
   giving-lends : (e : Giving) → Bytes (givingOf s e)
   giving-lends (giving.Connect l p f r) = tt
   giving-lends (giving.StartFilter c k m p e) = (part-bytes m p, part-bytes p e)
+  giving-lends (giving.StartFlow c k m p f e) = (part-bytes m p, (part-bytes p f, part-bytes f e))
   giving-lends (giving.StartPeriodic c f e i) = part-bytes f e
   giving-lends (giving.Get c p) = tt
 

@@ -5,9 +5,10 @@ use mathlib.Core.List.{List}
 use mathlib.Core.Option.{Option, none, some}
 use mathlib.Core.Path.{_≡_}
 use lib.ListN.{length}
-use Rattle.machine.specs.Step.{Event, step}
-use Rattle.layout.specs.Memory.{image, load}
+use Rattle.machine.specs.Step.{Event}
 use Rattle.layout.specs.Reach.{Bytes}
+use Rattle.whole.specs.Device.{step}
+use Rattle.memory.specs.Memory.{image, load}
 use Rattle.recording_sizes.specs.Sizes.{badNumber}
 use Rattle.number.specs.Place.{Written}
 use Rattle.edition.specs.Edition.{markSize, markAt}
@@ -15,7 +16,7 @@ use Rattle.events.specs.Events.{readEvent}
 use Rattle.answers.specs.Output.{answerBytes}
 use Rattle.answers.specs.Put.{Put}
 
--- an event was answered: the memory is that of the machine's next state, and the answer was written at a place of a buffer
+-- an event was answered: the memory is that of the box's next state, and the answer was written at a place of a buffer
 pub record Answered (rates : List ℕ) (e : Event) (m buffer : List ℕ) (at next : ℕ) (m′ buffer′ : List ℕ) : Type 0 where
   pub memory : m′ ≡ image (step rates (load m) e .0)
   pub written : Put buffer at (answerBytes e (step rates (load m) e .1)) next buffer′

@@ -1,15 +1,14 @@
-// Plays one event of a recording on a device memory known to be valid, and writes its answer.
+// Plays one event of a recording on a memory of the whole box that is known to be valid, and writes its answer.
 ghost use Prim.Native.Nat.{ℕ, _+_, _*_, _≤_};
 ghost use mathlib.Core.List.{List};
 ghost use lib.Dec.{T};
 ghost use lib.ListN.{length};
 ghost use Rattle.codec.specs.Plain.{zeros};
-ghost use Rattle.recording_sizes.specs.Sizes.{most, eventRoom};
-ghost use Rattle.machine.specs.Limits.{recordSize};
+ghost use Rattle.recording_sizes.specs.Sizes.{most, recordOn, eventRoom};
 ghost use Rattle.machine.specs.Channel.{takeNext};
 ghost use Rattle.machine.specs.Channel.{read as reads};
 ghost use Rattle.machine.specs.Step.{call};
-ghost use Rattle.layout.specs.Memory.{valid};
+ghost use Rattle.memory.specs.Memory.{valid};
 ghost use Rattle.events.specs.Events.{readEvent};
 ghost use Rattle.events.specs.Found.{eventOf, EventThere};
 ghost use Rattle.edition.specs.Edition.{ratesOf};
@@ -20,23 +19,24 @@ use events::Found;
 // Plays a read: the records go straight to their place in the output, and the code and the count stand in front of them.
 fn read_into(mem: &mut [u8], out: &mut [u8], at: usize, channel: u32, n: u32) -> usize
     requires { ⌜ T (valid (now mem)) × (n ≤ most) × (at + eventRoom ≤ length (now out)) ⌝ }
-    ensures { λ r. ⌜ ((rates : List ℕ) → Answered rates (call channel (reads n (zeros (recordSize * n)))) (now (mem .entry)) (now (out .entry)) at r (now (mem .exit)) (now (out .exit))) ⌝ }
+    ensures { λ r. ⌜ ((rates : List ℕ) → Answered rates (call channel (reads n (zeros (recordOn channel * n)))) (now (mem .entry)) (now (out .entry)) at r (now (mem .exit)) (now (out .exit))) ⌝ }
 {
+    let unit = recording_sizes::record_on(channel);
     let from = at + 2;
-    let end = from + recording_sizes::RECORD * (n as usize);
+    let end = from + unit * (n as usize);
     let a = owned::read(mem, channel, n, &mut out[from..end]);
     out[at + 1] = a.value as u8;
     out[at] = a.code as u8;
-    from + recording_sizes::RECORD * (a.value as usize)
+    from + unit * (a.value as usize)
 }
 
 // Plays a take: the record goes straight to its place in the output, and the code stands in front of it.
 fn take_into(mem: &mut [u8], out: &mut [u8], at: usize, channel: u32) -> usize
     requires { ⌜ T (valid (now mem)) × (at + eventRoom ≤ length (now out)) ⌝ }
-    ensures { λ r. ⌜ ((rates : List ℕ) → Answered rates (call channel (takeNext (zeros recordSize))) (now (mem .entry)) (now (out .entry)) at r (now (mem .exit)) (now (out .exit))) ⌝ }
+    ensures { λ r. ⌜ ((rates : List ℕ) → Answered rates (call channel (takeNext (zeros (recordOn channel)))) (now (mem .entry)) (now (out .entry)) at r (now (mem .exit)) (now (out .exit))) ⌝ }
 {
     let from = at + 1;
-    let end = from + recording_sizes::RECORD;
+    let end = from + recording_sizes::record_on(channel);
     let code = owned::take(mem, channel, &mut out[from..end]);
     out[at] = code as u8;
     if code != codes::STATUS_NOERROR {

@@ -14,13 +14,13 @@ use lib.Seq.{take-at}
 use Rattle.codec.specs.Plain.{all, isByte, zeros}
 use Rattle.codec.proofs.Lists.{Each}
 use Rattle.codec.proofs.Tests.{T-true, true-T}
-use Rattle.machine.specs.Step.{Device, Event, powerOn, step}
-use Rattle.layout.specs.Memory.{memory, image, load, valid}
-use Rattle.layout.specs.Sizes.{memorySize}
+use Rattle.machine.specs.Step.{Event}
 use Rattle.layout.proofs.Calls.{Known}
-use Rattle.layout.proofs.Memory.{load-image, ok-load, valid-image}
-use Rattle.layout.proofs.Reach.{step-ok, power-on-ok}
-use Rattle.layout.proofs.Sizes.{power-on-zeros}
+use Rattle.whole.specs.Device.{Device, powerOn, step}
+use Rattle.memory.specs.Sizes.{boxSize}
+use Rattle.memory.specs.Memory.{memory, image, load, valid}
+use Rattle.memory.proofs.Memory.{load-image, valid-image, ok-load, power-on-zeros}
+use Rattle.memory.proofs.Reach.{step-ok, power-on-ok}
 use Rattle.recording_sizes.specs.Sizes.{longest, eventRoom}
 use Rattle.edition.specs.Edition.{ratesOf, startOf, markAt}
 use Rattle.edition.proofs.Marked.{at-mark, new-start, start-inside}
@@ -201,7 +201,7 @@ pub record Partial (d : Device) (s : List ℕ) (at free : ℕ) (p : Piece) : Typ
   pub sound : T (memory .ok d) → T (memory .ok (p .device))
 
 -- for a caller that begins: a memory of zeros is a box just switched on
-pub zeros-valid : (m : List ℕ) → m ≡ zeros memorySize → T (valid m)
+pub zeros-valid : (m : List ℕ) → m ≡ zeros boxSize → T (valid m)
 zeros-valid m e = subst (λ (x : List ℕ). T (valid x)) (sym (e ∙ sym power-on-zeros)) (valid-image powerOn power-on-ok)
 
 -- for a caller's loop: the place is further on, what was written fits, and the memory is valid

@@ -10,9 +10,11 @@ use lib.ListN.{length, getD, take, drop}
 use Rattle.codec.specs.Plain.{if_then_else_, all, isByte}
 use Rattle.codec.proofs.Lists.{Each, all-take, all-drop}
 use Rattle.machine.specs.Cases.{_&_}
-use Rattle.machine.specs.Step.{Event, close}
+use Rattle.machine.specs.Channel.{startFilter, startFlow}
+use Rattle.machine.specs.Step.{Event, call, close}
 use Rattle.layout.specs.Reach.{Bytes}
-use Rattle.events.specs.Events.{Reads, _>>=_, done, bad, number, bytes, recordIn, arguments, argumentsOf, readEvent}
+use Rattle.recording_sizes.specs.Sizes.{onIso, recordOn}
+use Rattle.events.specs.Events.{Reads, _>>=_, done, bad, number, bytes, recordIn, startIn, arguments, argumentsOf, readEvent}
 use Rattle.events.proofs.Reading.{same, split}
 
 -- what is read of a recording of bytes lends bytes
@@ -47,9 +49,18 @@ lent size q h = record {
       h (w .what) (raw size s at (w .what) (w .place) t (w .first)) .lends s (w .place) e next t (w .rest);
 }
 
-lent-record : (q : List ℕ → Reads Event) → ((b : List ℕ) → T (all isByte b) → Lends (q b)) → Lends (recordIn >>= q)
+lent-record : (channel : ℕ) (q : List ℕ → Reads Event) → ((b : List ℕ) → T (all isByte b) → Lends (q b)) → Lends (recordIn channel >>= q)
 unfolding recordIn
-lent-record q h = lent 36 q h
+lent-record channel q h = lent (recordOn channel) q h
+
+-- a start of a filter, with the record of the flow or without
+started : (channel type : ℕ) (mask pattern : List ℕ) → T (all isByte mask) → T (all isByte pattern) → Lends (startIn channel type mask pattern)
+unfolding startIn
+started channel type mask pattern t u = go (onIso channel)
+  where
+    go : (b : Bool) → Lends (if b then (recordIn channel >>= λ flow. done (call channel (startFlow type mask pattern flow))) else done (call channel (startFilter type mask pattern)))
+    go true = lent-record channel _ (λ flow v. given _ (t, (u, v)))
+    go false = given _ (t, u)
 
 all-lend : Each Lends arguments
 unfolding arguments
@@ -60,9 +71,9 @@ all-lend =
     & given close tt
     & pass _ _ (λ t. given _ tt)
     & pass _ _ (λ l. pass _ _ (λ w. pass _ _ (λ i. pass _ _ (λ n. lent n _ (λ b t. given _ t)))))
-    & pass _ _ (λ c. pass _ _ (λ k. lent-record _ (λ m t. lent-record _ (λ p u. given _ (t, u)))))
+    & pass _ _ (λ c. pass _ _ (λ k. lent-record c _ (λ m t. lent-record c _ (λ p u. started c k m p t u))))
     & pass _ _ (λ c. pass _ _ (λ n. given _ tt))
-    & pass _ _ (λ c. lent-record _ (λ m t. pass _ _ (λ i. given _ t)))
+    & pass _ _ (λ c. lent-record c _ (λ m t. pass _ _ (λ i. given _ t)))
     & pass _ _ (λ c. pass _ _ (λ n. given _ tt))
     & pass _ _ (λ c. pass _ _ (λ n. lent _ _ (λ b t. given _ t)))
     & pass _ _ (λ c. pass _ _ (λ n. given _ tt))

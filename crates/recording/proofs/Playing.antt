@@ -9,13 +9,13 @@ use borrow.Author.Tests.{le-leb, lt-leb, lt-ltb, le-ltb}
 use lib.Dec.{T, leb, ltb}
 use lib.ListN.{length, take, drop, length-append, length-take, length-drop}
 use Rattle.codec.specs.Plain.{if_then_else_}
-use Rattle.machine.specs.Step.{Device, Event, connect, call, frame, advance, close, step}
-use Rattle.layout.specs.Memory.{load, valid}
+use Rattle.machine.specs.Step.{Event, connect, call, frame, advance, close}
 use Rattle.layout.specs.Reach.{Bytes}
 use Rattle.layout.proofs.Calls.{Known}
-use Rattle.layout.proofs.Memory.{load-image, image-load, ok-load, valid-image}
-use Rattle.layout.proofs.Entry.{length-valid}
-use Rattle.layout.proofs.Reach.{step-ok}
+use Rattle.whole.specs.Device.{Device, step}
+use Rattle.memory.specs.Memory.{load, valid}
+use Rattle.memory.proofs.Memory.{load-image, image-load, ok-load, valid-long, valid-image}
+use Rattle.memory.proofs.Reach.{step-ok}
 use Rattle.recording_sizes.specs.Sizes.{eventRoom}
 use Rattle.edition.specs.Edition.{startOf, markAt}
 use Rattle.edition.proofs.Marked.{no-mark, at-mark, new-start, start-inside}
@@ -136,7 +136,7 @@ module _ {rates s out₀ : List ℕ} {whole : Piece} {m out : List ℕ} {at plac
   same-output = put-length (p .put) bytes-fit
 
   pub same-memory : (m₀ : List ℕ) → T (valid m₀) → length m ≡ length m₀
-  same-memory m₀ ok = length-valid m (p .ok) ∙ sym (length-valid m₀ ok)
+  same-memory m₀ ok = valid-long m (p .ok) ∙ sym (valid-long m₀ ok)
 
   -- nothing more is played
   over : goesOn rates (p .turns) (load m) s (eventAt s at) (length out₀ - place) ≡ piece [] at (load m) → leaves 0x00 at place m out ≡ written whole out₀

@@ -7,8 +7,8 @@ use native.Mathlib.Omega.{arith}
 use borrow.Author.Tests.{lt-ltb, le-ltb, le-leb, lt-leb}
 use lib.ListN.{length, drop}
 use Rattle.codec.proofs.Tests.{true-T}
-use Rattle.layout.specs.Memory.{load, valid}
-use Rattle.layout.proofs.Memory.{image-load}
+use Rattle.memory.specs.Memory.{load, valid}
+use Rattle.memory.proofs.Memory.{image-load}
 use Rattle.edition.specs.Edition.{ratesOf}
 use Rattle.number.specs.Number.{bytesOf, groups}
 use Rattle.number.specs.Place.{Written}

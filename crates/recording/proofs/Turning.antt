@@ -8,7 +8,7 @@ use native.Mathlib.Omega.{arith}
 use lib.Dec.{T}
 use lib.ListN.{length}
 use Rattle.machine.specs.Step as machine
-use Rattle.layout.specs.Memory.{load, valid}
+use Rattle.memory.specs.Memory.{load, valid}
 use Rattle.recording_sizes.specs.Sizes.{eventRoom}
 use Rattle.events.specs.Events.{readEvent}
 use Rattle.events.proofs.Ending.{event-ends}

@@ -5,7 +5,7 @@ use lib.Dec.{leb, ltb}
 use lib.ListN.{length, take}
 use Rattle.codec.specs.Plain.{if_then_else_}
 use Rattle.recording_sizes.specs.Sizes.{longest}
-use Rattle.machine.specs.Step.{Device}
+use Rattle.whole.specs.Device.{Device}
 use Rattle.edition.specs.Edition.{ratesOf}
 use Rattle.recording.specs.Replay.{badEvent, played, eventAt, Left, pieced}
 

@@ -10,8 +10,9 @@ use lib.ListN.{length, drop}
 use Rattle.codec.specs.Plain.{if_then_else_}
 use Rattle.recording_sizes.specs.Sizes.{longest, eventRoom, badNumber}
 use Rattle.number.specs.Number.{bytesOf}
-use Rattle.machine.specs.Step.{Device, powerOn, Event, step}
-use Rattle.layout.specs.Memory.{image, load, valid}
+use Rattle.machine.specs.Step.{Event}
+use Rattle.whole.specs.Device.{Device, powerOn, step}
+use Rattle.memory.specs.Memory.{image, load, valid}
 use Rattle.edition.specs.Edition.{markSize, ratesOf, startOf, markAt}
 use Rattle.events.specs.Events.{readEvent}
 use Rattle.answers.specs.Output.{answerBytes}

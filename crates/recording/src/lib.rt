@@ -4,7 +4,7 @@ ghost use Prim.Native.Nat.{_+_, _≤_};
 ghost use lib.Dec.{T};
 ghost use lib.ListN.{length};
 ghost use Rattle.recording_sizes.specs.Sizes.{eventRoom};
-ghost use Rattle.layout.specs.Memory.{valid, load};
+ghost use Rattle.memory.specs.Memory.{valid, load};
 ghost use Rattle.edition.specs.Edition.{ratesOf};
 ghost use Rattle.recording.specs.Replay.{goesOn, eventAt, leaves, written, pieced};
 use playing::Turn;
@@ -53,7 +53,7 @@ fn stays(code: u32, at: usize) -> Played
 pub fn play_on(mem: &mut [u8], recording: &[u8], at: usize, out: &mut [u8]) -> Played
     ensures { λ r. ⌜ leaves (r .code) (r .at) (r .length) (now (mem .exit)) (now (out .exit)) ≡ pieced (now (mem .entry)) (now (recording .entry)) at (now (out .entry)) ⌝ }
 {
-    if !validity::valid(mem) {
+    if !box_validity::valid(mem) {
         return stays(codes::ERR_INVALID_DEVICE_ID, at);
     }
     if out.len() < recording_sizes::EVENT_ROOM {

@@ -4,7 +4,7 @@ ghost use Prim.Native.Nat.{_≤_};
 ghost use lib.Dec.{T};
 ghost use lib.ListN.{length};
 ghost use Rattle.recording_sizes.specs.Sizes.{eventRoom};
-ghost use Rattle.layout.specs.Memory.{valid};
+ghost use Rattle.memory.specs.Memory.{valid};
 use libc::STDERR_FILENO;
 use libc::STDOUT_FILENO;
 
@@ -28,7 +28,7 @@ fn play(mem: &mut [u8], recording: &[u8], out: &mut [u8]) -> bool
 
 // The same from power-on.
 fn answer(recording: &[u8]) -> bool {
-    let mut mem = [0u8; places::MEMORY];
+    let mut mem = [0u8; box_places::BOX];
     let mut out = [0u8; PIECE];
     play(&mut mem, recording, &mut out)
 }

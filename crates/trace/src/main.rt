@@ -51,6 +51,21 @@ fn answer(memory: &mut [u8; MEMORY], rates: &[u32], recording: &[u8], e: Giving)
             part(recording, mask, pattern),
             part(recording, pattern, end),
         ),
+        Giving::StartFlow {
+            channel,
+            kind,
+            mask,
+            pattern,
+            flow,
+            end,
+        } => device::start_flow_filter(
+            memory,
+            channel,
+            kind,
+            part(recording, mask, pattern),
+            part(recording, pattern, flow),
+            part(recording, flow, end),
+        ),
         Giving::StartPeriodic {
             channel,
             from,
@@ -66,15 +81,39 @@ fn read(memory: &mut [u8; MEMORY], channel: u32, n: u32) {
     let mut buffer = [0u8; recording_sizes::RECORDS];
     trace_events::read(channel, n);
     let answer = device::read(memory, channel, n, &mut buffer);
-    trace_events::given_records(answer, &buffer);
+    trace_events::given_records(channel, answer, &buffer);
 }
 
 // A take, its answer and the record to send.
 fn take(memory: &mut [u8; MEMORY], channel: u32) {
-    let mut buffer = [0u8; recording_sizes::RECORD];
+    let mut buffer = [0u8; recording_sizes::ISO_RECORD];
     trace_events::take(channel);
     let code = device::take(memory, channel, &mut buffer);
-    trace_events::taken(code, &buffer);
+    trace_events::taken(channel, code, &buffer);
+}
+
+// Is the ISO 15765 channel of a line open?
+fn iso_open(memory: &[u8], line: u32) -> bool {
+    if line >= places::LINES as u32 {
+        return false;
+    }
+    let channel = places::LINES as u32 + 1 + line;
+    device::last_error(memory, channel).code == codes::STATUS_NOERROR
+}
+
+// What a frame that was accepted is on the ISO 15765 channel of its line, where that is open; nothing of any other event.
+fn heard(memory: &[u8], recording: &[u8], e: Plain) {
+    if let Plain::Frame {
+        line,
+        wide: _,
+        id: _,
+        from: _,
+        end: _,
+    } = e {
+        if iso_open(memory, line) {
+            trace_events::heard(recording, e);
+        }
+    }
 }
 
 // An event and its answer.
@@ -82,7 +121,11 @@ fn event(memory: &mut [u8; MEMORY], rates: &[u32], recording: &[u8], e: Event) {
     match e {
         Event::Code(asked) => {
             trace_events::plain(recording, asked);
-            trace_events::coded(plain_code(memory, rates, recording, asked));
+            let code = plain_code(memory, rates, recording, asked);
+            trace_events::coded(code);
+            if code == codes::STATUS_NOERROR {
+                heard(memory, recording, asked);
+            }
         }
         Event::Number(asked) => {
             trace_events::giving(asked);
@@ -96,7 +139,7 @@ fn event(memory: &mut [u8; MEMORY], rates: &[u32], recording: &[u8], e: Event) {
         } => {
             trace_events::write(channel, n);
             let list = part(recording, from, end);
-            trace_events::written(device::write(memory, channel, n, list), list);
+            trace_events::written(channel, device::write(memory, channel, n, list), list);
         }
         Event::Read(channel, n) => read(memory, channel, n),
         Event::Take(channel) => take(memory, channel),

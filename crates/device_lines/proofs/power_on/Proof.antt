@@ -1,10 +1,11 @@
+-- `device_lines::power_on` meets its contract. Assumes nothing.
 use mathlib.Core.Path.{sym, ap, _∙_}
 use mathlib.Core.List.{List, []}
 use Prim.Native.Nat.{ℕ}
 use Rattle.codec.specs.Plain.{zeros}
 use Rattle.layout.specs.Promise.{gives}
 use denote.Ref.{now}
-use Rattle.layout.proofs.Unique.{started, not-started}
+use Rattle.memory.proofs.Demands.{started, not-started}
 use borrow.Author.Needs.{needs}
 use Rattle.device_lines.proofs.power_on.Statement.{statement}
 use Rattle.device_lines.proofs.power_on.Tie as tie

@@ -51,7 +51,7 @@ use Rattle.edition.specs.Edition.{ratesOf}
 use Rattle.reader.specs.Reader.{readerAt}
 use Rattle.reader.specs.declared.Reader.{Reader}
 use Rattle.playing.specs.declared.Turn.{Turn}
-use Rattle.layout.specs.Memory.{valid}
+use Rattle.memory.specs.Memory.{valid}
 use Rattle.recording.specs.Replay.{leaves, written}
 use Rattle.recording.proofs.Turning.{State, state, pieceFrom, Stepped, Moving, begun-at, ended-at, full-at, out-length, mem-length, Nearer, turn-at}
 use Rattle.walks.proofs.Again.{LentAgain, lends-again, comes-back}

@@ -8,7 +8,7 @@ use borrow.Author.Tests.{not-true, not-false}
 use lib.ListN.{length}
 use denote.Ref.{now}
 use Rattle.codec.proofs.Tests.{true-T}
-use Rattle.layout.specs.Memory.{valid}
+use Rattle.memory.specs.Memory.{valid}
 use Rattle.recording_sizes.specs.Sizes.{eventRoom}
 use Rattle.recording.proofs.Promise.{stayed, not-memory, no-room, nothing-more, bad-fits, too-long, goes-piece}
 use borrow.Author.Needs.{needs}

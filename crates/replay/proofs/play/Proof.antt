@@ -6,7 +6,7 @@ use lib.Dec.{T}
 use lib.ListN.{length}
 use denote.Ref.{now}
 use Rattle.codec.proofs.Lists.{bytes-of}
-use Rattle.layout.specs.Memory.{valid}
+use Rattle.memory.specs.Memory.{valid}
 use Rattle.recording.proofs.Joined.{Went, goes-on}
 use borrow.Author.Needs.{needs}
 use Rattle.replay.proofs.play.Statement.{statement}

@@ -1,0 +1,71 @@
+-- `box_traffic::take` meets its contract. Assumes nothing.
+use mathlib.Core.Path.{_≡_}
+use mathlib.Core.List.{[]}
+use native.Mathlib.Omega.{arith}
+use lib.ListN.{length}
+use Rattle.machine.specs.Channel.{lent}
+use Rattle.layout.specs.Sizes.{regionSize}
+use Rattle.iso_layout.specs.Sizes.{isoRegionSize}
+use Rattle.memory.proofs.Seats.{raw-ends, raw-lent, raw-noted, raw-called, iso-ends, iso-lent, iso-noted, iso-called}
+use borrow.Author.Needs.{needs}
+use Rattle.box_traffic.proofs.take.Statement.{statement}
+use Rattle.box_traffic.proofs.take.Tie as tie
+
+note-requires : tie.Need-note-requires
+note-requires c κs =
+    let did = c .before .before .before .before .before in
+    let at = did .before .before .before .before .before in
+    let seat = at .region-of .ensures .raw (did .before .before .before .before .if1 .left) (did .before .before .before .if2 .taken) in
+    let long : length (did .take .last .0) ≡ regionSize = omega arith in
+    raw-noted _ (at .before .before .before .before .pre) _ _ seat [] _ _ _ _ _ (did .take .ensures [] _) long
+
+returns-2 : tie.Need-returns-2
+returns-2 c rates =
+    let did = c .before .before .before .before .before .before .before .before in
+    let at = did .before .before .before .before .before in
+    let seat = at .region-of .ensures .raw (did .before .before .before .before .if1 .left) (did .before .before .before .if2 .taken) in
+    let long : length (did .take .last .0) ≡ regionSize = omega arith in
+    raw-called _ (at .before .before .before .before .pre) _ _ seat rates _ _ _ _ _ _ long (did .take .ensures rates _) (c .before .before .note .ensures)
+
+note-requires-2 : tie.Need-note-requires-2
+note-requires-2 c κs =
+    let did = c .before .before .before .before .before in
+    let at = did .before .before .before .before .before in
+    let seat = at .region-of .ensures .iso (did .before .before .before .if2 .left) in
+    let long : length (did .take2 .last .0) ≡ isoRegionSize = omega arith in
+    iso-noted _ (at .before .before .before .before .pre) _ _ seat [] _ _ _ _ _ (did .take2 .ensures [] _) long
+
+returns-3 : tie.Need-returns-3
+returns-3 c rates =
+    let did = c .before .before .before .before .before .before .before .before in
+    let at = did .before .before .before .before .before in
+    let seat = at .region-of .ensures .iso (did .before .before .before .if2 .left) in
+    let long : length (did .take2 .last .0) ≡ isoRegionSize = omega arith in
+    iso-called _ (at .before .before .before .before .pre) _ _ seat rates _ _ _ _ _ _ long (did .take2 .ensures rates _) (c .before .before .note2 .ensures)
+
+pub take-spec : {M : Type 1} → statement M
+unfolding lent
+take-spec =
+    tie.close
+    (tie.spec
+    (λ c κs. search needs)
+    (λ c. search needs)
+    (λ c rates. c .before .region-of .ensures .refused (c .if1 .taken) rates _)
+    (λ c. omega arith)
+    (λ c. search needs)
+    (λ c. search needs)
+    (λ c. raw-ends _ (c .before .before .before .before .before .before .pre) _ _ (c .before .before .region-of .ensures .raw (c .before .if1 .left) (c .if2 .taken)))
+    (λ c κs. raw-lent _ (c .before .before .before .before .before .before .before .before .pre) _ _ (c .before .before .before .before .region-of .ensures .raw (c .before .before .before .if1 .left) (c .before .before .if2 .taken)))
+    note-requires
+    (λ c. search needs)
+    (λ c. search needs)
+    returns-2
+    (λ c. omega (arith, c .before .before .region-of .ensures .iso (c .if2 .left)))
+    (λ c. search needs)
+    (λ c. search needs)
+    (λ c. iso-ends _ (c .before .before .before .before .before .before .pre) _ _ (c .before .before .region-of .ensures .iso (c .if2 .left)))
+    (λ c κs. iso-lent _ (c .before .before .before .before .before .before .before .before .pre) _ _ (c .before .before .before .before .region-of .ensures .iso (c .before .before .if2 .left)))
+    note-requires-2
+    (λ c. search needs)
+    (λ c. search needs)
+    returns-3)

@@ -1,0 +1,3 @@
+pub mod Rules
+pub mod Flying
+pub mod Lowest
