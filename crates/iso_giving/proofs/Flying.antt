@@ -1,12 +1,12 @@
 -- The region in which a conversation gives a frame: its place, then the flight. Assumes nothing.
-use mathlib.Core.Path.{_≡_, refl, sym, ap, ap₂, _∙_, subst}
-use Prim.Native.Nat.{ℕ, suc, _+_, _*_, _-_, _^_, _≤_, _<_}
+use mathlib.Core.Path.{_≡_, refl, sym, ap, _∙_, subst}
+use Prim.Native.Nat.{ℕ, _+_, _*_, _-_, _≤_, _<_}
 use native.Mathlib.Omega.{arith}
 use mathlib.Core.Bool.{Bool, true, false}
 use mathlib.Core.Option.{Option, none, some}
-use mathlib.Core.List.{List, [], _∷_}
+use mathlib.Core.List.{List, []}
 use lib.ListN.{length, getD, set, take, drop, length-set}
-use lib.Seq.{getD-take, getD-drop, getD-set-same, length-take-le}
+use lib.Seq.{getD-take, getD-set-same, length-take-le}
 use lib.Dec.{T, eqb}
 use borrow.Rule.Slice.PartMut.{putMid, put-same}
 use Rattle.codec.specs.Word.{word, wordAt}
@@ -16,10 +16,9 @@ use Rattle.codec.proofs.Word.{word-back, word-drop}
 use Rattle.codec.proofs.Lists.{all-at, all-set}
 use Rattle.codec.proofs.Many.{many-make, many-count, many-each}
 use Rattle.codec.proofs.Part.{Part, byte-of}
-use Rattle.machine.specs.Filter.{Slots}
 use Rattle.machine.specs.Message.{Rec}
 use Rattle.iso.specs.Limits.{mostTalks}
-use Rattle.iso.specs.Iso.{Talk, Owner, Flight, OpenIso, ready, Given, Chosen, setTalks, setWritten, setFlight, turned, framed}
+use Rattle.iso.specs.Iso.{Talk, Owner, OpenIso, ready, Given, setTalks, setWritten, setFlight, turned, framed}
 use Rattle.iso_layout.specs.Sizes.{talkSize, talksAt, flowIn, isoFlightAt, isoFlightSize}
 use Rattle.iso_layout.specs.Region.{ownerParts, talkCell, talksCode, flightCode, isoRest, isoRegion}
 use Rattle.iso_layout.specs.Promise.{IsoOpened}

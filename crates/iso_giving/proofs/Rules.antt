@@ -1,28 +1,27 @@
 -- What a conversation gives by each rule is a frame of its own, and the lowest of two. Assumes nothing.
 use mathlib.Core.Path.{_≡_, refl, sym, ap, _∙_}
-use Prim.Native.Nat.{ℕ, suc, _+_, _/_, _%_, _≤_, _<_}
+use Prim.Native.Nat.{ℕ, suc, _+_, _/_, _%_, _≤_}
 use native.Mathlib.Omega.{arith}
 use mathlib.Core.Bool.{Bool, true, false, true≢false}
 use mathlib.Core.Option.{Option, none, some}
 use mathlib.Core.List.{List, [], _∷_}
 use lib.ListN.{length, getD, take, drop, length-drop}
-use lib.Dec.{T, eqb}
+use lib.Dec.{eqb}
 use borrow.Author.Tests.{ne-eqb}
 use Rattle.codec.specs.Plain.{if_then_else_}
 use Rattle.layout.proofs.Tables.{by-test}
 use Rattle.machine.specs.Message.{Rec, bit, idOf}
-use Rattle.machine.specs.Filter.{Slots}
-use Rattle.iso.specs.Limits.{idSize, isoData, longestSingle, inFirst, inNext}
-use Rattle.iso.specs.Iso.{Stage, opens, awaits, flies, sends, Transmission, Transfer, idle, refuses, receives, transmits, Talk, Owner, OpenIso, ready, Given, Chosen, gives, turned, framed, numberAfter, firstFrame, nextFrame, flowFrame, answerOf, nextOf, segmentOf, carries, startOf, passing, giving, lowest, orElse}
+use Rattle.iso.specs.Limits.{idSize, isoData, inFirst, inNext}
+use Rattle.iso.specs.Iso.{Stage, opens, awaits, flies, sends, Transmission, Transfer, idle, refuses, receives, transmits, Talk, Owner, OpenIso, ready, Given, Chosen, gives, framed, numberAfter, firstFrame, nextFrame, flowFrame, answerOf, nextOf, segmentOf, carries, startOf, passing, giving, lowest, orElse}
 use Rattle.iso_layout.specs.Record.{messageCell}
 use Rattle.iso_layout.specs.Region.{ownerParts, isoRegion}
 use Rattle.iso_layout.specs.Promise.{IsoOpened}
 use Rattle.iso_layout.proofs.Held.{ToSend, sending-sound, TalkOk}
-use Rattle.iso_layout.proofs.Taking.{GivenOk, MayGive, answer-ok, segmentOf-ok, startOf-ok}
+use Rattle.iso_layout.proofs.Taking.{MayGive, answer-ok, segmentOf-ok, startOf-ok}
 use Rattle.iso_layout.proofs.Region.{readyOf, kept}
 use Rattle.framing.specs.Data.{carried}
 use Rattle.framing.proofs.Laws.{framed-carries}
-use Rattle.iso_giving.specs.Giving.{channelIn, ownerOf, chose, taking, Chose, Rule, answers, segments, starts, chosenAt, givenIn, givenAt, Segmented}
+use Rattle.iso_giving.specs.Giving.{ownerOf, chose, taking, Chose, Rule, answers, segments, starts, chosenAt, givenIn, Segmented}
 
 -- ---- what it gives is a frame of its own
 

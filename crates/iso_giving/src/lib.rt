@@ -1,6 +1,6 @@
 // What a conversation of an ISO 15765 channel has to send goes into the flight: a flow frame, a consecutive frame, the first frame of a message.
 ghost use mathlib.Core.Path.{_≡_};
-ghost use Prim.Native.Nat.{ℕ, _≤_, _<_};
+ghost use Prim.Native.Nat.{_≤_, _<_};
 ghost use mathlib.Core.Option.{none, some};
 ghost use lib.ListN.{length, getD};
 ghost use Rattle.machine.specs.Message.{Rec};

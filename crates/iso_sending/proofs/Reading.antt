@@ -2,12 +2,11 @@
 use mathlib.Core.Path.{_≡_, refl, sym, ap, ap₂, _∙_}
 use Prim.Native.Nat.{ℕ, suc, _+_, _-_, _*_, _/_, _%_, _^_, _≤_, _<_}
 use native.Mathlib.Omega.{arith}
-use mathlib.Core.Bool.{Bool}
 use mathlib.Core.List.{List, [], _∷_, _++_, append-assoc}
 use lib.ListN.{length, take, drop, length-drop}
 use lib.Seq.{take-at, drop-append-le, drop-drop}
-use lib.Dec.{T, eqb}
-use Rattle.codec.specs.Plain.{member, zeros}
+use lib.Dec.{eqb}
+use Rattle.codec.specs.Plain.{zeros}
 use Rattle.codec.specs.Word.{word, wordAt}
 use Rattle.codec.specs.Code.{byte, word32, both, via, such, many, putAll, upTo}
 use Rattle.codec.proofs.Tests.{left}
@@ -16,14 +15,13 @@ use Rattle.codec.proofs.Word.{word-back}
 use Rattle.codec.proofs.Many.{upTo-each, upTo-lawful}
 use Rattle.machine.specs.Message.{Rec, bit, idOf}
 use Rattle.layout.proofs.Memory.{bytes-put}
-use Rattle.iso.specs.Limits.{mostMessages, isoProtocol, idSize, isoData, mostPayload, isoRecordSize}
+use Rattle.iso.specs.Limits.{mostMessages, isoProtocol, idSize, isoData}
 use Rattle.iso.specs.Iso.{padded}
 use Rattle.iso_layout.specs.Sizes.{messagesSize}
 use Rattle.iso_layout.specs.Record.{extraIs, isoParts, rec536, messageCell}
 use Rattle.iso_layout.proofs.Sizes.{messages-size}
 use Rattle.iso_layout.proofs.Lawful.{message-lawful}
 use Rattle.iso_layout.proofs.Held.{ToSend, sending-sound}
-use Rattle.iso_launching.specs.Launch.{messages}
 use Rattle.iso_sending.specs.Starting.{HeldIn, Reads}
 
 -- an identifier in front

@@ -1,6 +1,6 @@
 -- The oldest written message leaves the messages and its frame is in flight. Assumes nothing.
 use mathlib.Core.Path.{_≡_, refl, sym, ap, ap₂, _∙_, subst}
-use Prim.Native.Nat.{ℕ, suc, _+_, _-_, _≤_, _<_}
+use Prim.Native.Nat.{ℕ, suc, _-_, _≤_, _<_}
 use native.Mathlib.Omega.{arith}
 use mathlib.Core.Bool.{Bool, true, false, not, _||_, true≢false}
 use mathlib.Core.Option.{Option, none, some}
@@ -10,9 +10,9 @@ use lib.Seq.{length-take-le}
 use lib.Dec.{T}
 use borrow.Rule.Slice.PartMut.{putMid, midOf}
 use borrow.Author.Tests.{le-leb, lt-leb}
-use Rattle.codec.specs.Plain.{if_then_else_, member, all, isByte}
+use Rattle.codec.specs.Plain.{member, all, isByte}
 use Rattle.codec.specs.Code.{slot, upTo}
-use Rattle.codec.proofs.Tests.{left, T-true}
+use Rattle.codec.proofs.Tests.{left}
 use Rattle.codec.proofs.Lists.{of-member}
 use Rattle.codec.proofs.Many.{upTo-count, upTo-each, upTo-drop}
 use Rattle.codec.proofs.Part.{Part, byte-of}
@@ -20,20 +20,20 @@ use Rattle.machine.specs.Message.{Rec, bit, widthFlag, idBytes, idOf}
 use Rattle.machine.specs.Filter.{Slots, anySlot}
 use Rattle.receiving.proofs.Sent.{id-there}
 use Rattle.iso.specs.Limits.{mostMessages, idSize, isoData, mostPayload, longestSingle, inSingle}
-use Rattle.iso.specs.Iso.{Talk, Owner, message, Flight, OpenIso, ready, Given, Chosen, setTalks, setWritten, setFlight, framed, singleFrame, transmitting, passing, giving, lowest, starting}
+use Rattle.iso.specs.Iso.{Talk, Owner, message, OpenIso, ready, Given, Chosen, setTalks, setWritten, setFlight, framed, singleFrame, transmitting, passing, giving, lowest, starting}
 use Rattle.iso_layout.specs.Sizes.{messagesAt, messagesSize, isoFlightAt, isoFlightSize}
 use Rattle.iso_layout.specs.Record.{messageCell}
 use Rattle.iso_layout.specs.Region.{ownerParts, flightCode, transmitsIn, isoRegion}
 use Rattle.iso_layout.specs.Promise.{IsoOpened}
 use Rattle.iso_layout.proofs.Held.{ToSend, sending-sound}
 use Rattle.iso_layout.proofs.Good.{fli, FineIso, GoodIso, Linked, good-iso}
-use Rattle.iso_layout.proofs.Taking.{ChosenOk, MayChoose, lowest-ok}
+use Rattle.iso_layout.proofs.Taking.{MayChoose, lowest-ok}
 use Rattle.iso_layout.proofs.Region.{readyOf, kept, good, Lies, lies, messages-part, flight-part, opened-again, ready-again}
 use Rattle.framing.specs.Data.{frameRoom, carried, Carries}
 use Rattle.framing.proofs.Laws.{single-carries}
 use Rattle.iso_launching.specs.Launch.{messages, flown}
 use Rattle.iso_giving.specs.Giving.{channelIn, chose, taking, Chose, Rule, starts, Segmented, Startable}
-use Rattle.iso_giving.proofs.Rules.{Fair, fair-starts}
+use Rattle.iso_giving.proofs.Rules.{fair-starts}
 use Rattle.iso_sending.specs.Starting.{HeldIn, Reads, OldestIs, Calm}
 
 -- ---- a channel with what was chosen can be held

@@ -5,7 +5,7 @@ use native.Mathlib.Nat.{suc-ne-zero}
 use native.Mathlib.Omega.{arith}
 use mathlib.Core.Bool.{Bool, true, false, true≢false}
 use mathlib.Core.Option.{Option, none, some}
-use mathlib.Core.List.{List, [], _∷_}
+use mathlib.Core.List.{List}
 use lib.ListN.{length, getD}
 use borrow.Author.Tests.{le-ltb}
 use Rattle.codec.specs.Code.{slot}
@@ -15,9 +15,9 @@ use Rattle.machine.specs.Filter.{Slots}
 use Rattle.machine.specs.Channel.{takeNext, says}
 use Rattle.layout.specs.Promise.{gives}
 use Rattle.iso.specs.Limits.{isoRecordSize}
-use Rattle.iso.specs.Iso.{Talk, Flight, OpenIso, Iso, ready, IsoOutcome, Chosen, setTalks, setWritten, setFlight, choice, onChosen, isoTaking, onIsoTake, shorterIso, unlessIso, onReady, onIsoCall}
+use Rattle.iso.specs.Iso.{Talk, Flight, OpenIso, Iso, ready, Chosen, setTalks, setWritten, setFlight, choice, onChosen, isoTaking, onIsoTake, shorterIso, unlessIso, onReady, onIsoCall}
 use Rattle.iso_layout.specs.Sizes.{isoFlightAt}
-use Rattle.iso_layout.specs.Region.{flightCode, isoRegion}
+use Rattle.iso_layout.specs.Region.{flightCode}
 use Rattle.iso_layout.specs.Promise.{IsoOpened, isoGives, isoOutcome}
 use Rattle.iso_layout.proofs.Good.{fli, GoodIso, Linked}
 use Rattle.iso_layout.proofs.Taking.{MayChoose, choice-ok}
