@@ -8,7 +8,6 @@ ghost use Rattle.machine.specs.Channel.{takeNext};
 ghost use Rattle.machine.specs.Channel.{sent as sentOf};
 ghost use Rattle.machine.specs.Device.{call};
 ghost use Rattle.layout.specs.Promise.{gives};
-ghost use Rattle.layout.specs.Promise.{outcome as rawOutcome};
 ghost use Rattle.memory.specs.Promise.{outcome};
 use codes::Answer;
 
@@ -40,20 +39,20 @@ pub fn read(mem: &mut [u8], channel: u32, n: u32, buffer: &mut [u8]) -> Answer
 
 // The frame to send next, to a buffer; it stays in flight.
 pub fn take(mem: &mut [u8], channel: u32, buffer: &mut [u8]) -> u32
-    ensures { λ c. ⌜ gives c 0 (now (buffer .exit)) (now (mem .exit)) ≡ rawOutcome twoRates (now (mem .entry)) (call channel (takeNext (now (buffer .entry)))) ⌝ }
+    ensures { λ c. ⌜ gives c 0 (now (buffer .exit)) (now (mem .exit)) ≡ outcome twoRates (now (mem .entry)) (call channel (takeNext (now (buffer .entry)))) ⌝ }
 {
-    if !validity::valid(mem) {
+    if !box_validity::valid(mem) {
         return codes::ERR_INVALID_DEVICE_ID;
     }
-    owned_traffic::take(mem, channel, buffer)
+    box_traffic::take(mem, channel, buffer)
 }
 
 // The frame in flight is on the line.
 pub fn sent(mem: &mut [u8], channel: u32) -> u32
-    ensures { λ c. ⌜ gives c 0 [] (now (mem .exit)) ≡ rawOutcome twoRates (now (mem .entry)) (call channel sentOf) ⌝ }
+    ensures { λ c. ⌜ gives c 0 [] (now (mem .exit)) ≡ outcome twoRates (now (mem .entry)) (call channel sentOf) ⌝ }
 {
-    if !validity::valid(mem) {
+    if !box_validity::valid(mem) {
         return codes::ERR_INVALID_DEVICE_ID;
     }
-    owned_traffic::sent(mem, channel)
+    box_traffic::sent(mem, channel)
 }

@@ -6,7 +6,7 @@ use Rattle.codec.proofs.Tests.{true-T}
 use Rattle.machine.specs.Channel.{lent}
 use Rattle.machine.specs.Codes.{twoRates}
 use Rattle.machine.specs.Device.{lentBy}
-use Rattle.layout.proofs.Entry.{not-valid}
+use Rattle.memory.proofs.Rows.{not-valid}
 use Rattle.device_traffic.proofs.sent.Statement.{statement}
 use Rattle.device_traffic.proofs.sent.Tie as tie
 
