@@ -33,6 +33,8 @@ use Rattle.passthru.proofs.trawl_disconnect.Kinds as trawl-disconnect-k
 use Rattle.passthru.proofs.trawl_disconnect.Reads as trawl-disconnect
 use Rattle.passthru.proofs.trawl_start_filter.Kinds as trawl-start-filter-kinds
 use Rattle.passthru.proofs.trawl_start_filter.Reads as trawl-start-filter
+use Rattle.passthru.proofs.trawl_start_flow_filter.Kinds as trawl-start-flow-filter-kinds
+use Rattle.passthru.proofs.trawl_start_flow_filter.Reads as trawl-start-flow-filter
 use Rattle.passthru.proofs.trawl_stop_filter.Kinds as trawl-stop-filter-kinds
 use Rattle.passthru.proofs.trawl_stop_filter.Reads as trawl-stop-filter
 use Rattle.passthru.proofs.trawl_start_periodic.Kinds as trawl-start-periodic-kinds
@@ -91,6 +93,9 @@ trawl-disconnect-settled κs a x y p q = alike (p ∙ sym q) (λ s. (s .code, (s
 
 pub trawl-start-filter-settled : OneOutcome 4 trawl-start-filter-kinds.ps trawl-start-filter-kinds.r trawl-start-filter.Post
 trawl-start-filter-settled κs a x y p q = alike (p ∙ sym q) (λ s. (s .code, (s .memory, (tt, (tt, (tt, (tt, (s .value, tt))))))))
+
+pub trawl-start-flow-filter-settled : OneOutcome 5 trawl-start-flow-filter-kinds.ps trawl-start-flow-filter-kinds.r trawl-start-flow-filter.Post
+trawl-start-flow-filter-settled κs a x y p q = alike (p ∙ sym q) (λ s. (s .code, (s .memory, (tt, (tt, (tt, (tt, (tt, (s .value, tt)))))))))
 
 pub trawl-stop-filter-settled : OneOutcome 1 trawl-stop-filter-kinds.ps trawl-stop-filter-kinds.r trawl-stop-filter.Post
 trawl-stop-filter-settled κs a x y p q = alike (p ∙ sym q) (λ s. (s .code, (s .memory, x .1 .1)))

@@ -4,10 +4,11 @@ ghost use mathlib.Core.List.{[]};
 ghost use mathlib.Core.Bool.{not};
 ghost use lib.Dec.{eqb};
 ghost use Rattle.machine.specs.Codes.{twoRates};
-ghost use Rattle.machine.specs.Channel.{disconnect, clear, write, read, takeNext, sent, startFilter, stopFilter, startPeriodic, stopPeriodic, getParameter, setParameter, lastError, getList, setList, flat};
+ghost use Rattle.machine.specs.Channel.{disconnect, clear, write, read, takeNext, sent, startFilter, startFlow, stopFilter, startPeriodic, stopPeriodic, getParameter, setParameter, lastError, getList, setList, flat};
 ghost use Rattle.machine.specs.Device.{call, connect, close, advance, frame};
-ghost use Rattle.layout.specs.Memory.{valid};
-ghost use Rattle.layout.specs.Promise.{gives, outcome, powerOnOutcome};
+ghost use Rattle.layout.specs.Promise.{gives};
+ghost use Rattle.memory.specs.Memory.{valid};
+ghost use Rattle.memory.specs.Promise.{outcome, powerOnOutcome};
 ghost use Rattle.device_lists.specs.Lists.{listed};
 ghost use Rattle.telegram.specs.Bits.{bitValue};
 ghost use Rattle.telegram.specs.Telegram.{timeOf, readAny};
@@ -27,7 +28,7 @@ fn bit(b: bool) -> u32
 pub extern "C" fn trawl_valid(mem: &[u8]) -> u32
     ensures { λ r. ⌜ r ≡ bitValue (valid (now (mem .entry))) ⌝ }
 {
-    bit(validity::valid(mem))
+    bit(device::valid(mem))
 }
 
 // Any bytes of the right size become the memory of a box just switched on.
@@ -63,7 +64,7 @@ pub extern "C" fn trawl_close(mem: &mut [u8]) -> u32
     device::close(mem)
 }
 
-// Time goes on, for the clock and every periodic.
+// Time goes on, for the clock and every timer.
 #[no_mangle]
 pub extern "C" fn trawl_advance(mem: &mut [u8], us: u32) -> u32
     ensures { λ c. ⌜ gives c 0 [] (now (mem .exit)) ≡ outcome twoRates (now (mem .entry)) (advance us) ⌝ }
@@ -71,7 +72,7 @@ pub extern "C" fn trawl_advance(mem: &mut [u8], us: u32) -> u32
     device::advance(mem, us)
 }
 
-// A frame from a line, offered to the line's channel.
+// A frame from a line, offered to the line's channels.
 #[no_mangle]
 pub extern "C" fn trawl_frame(mem: &mut [u8], line: u32, wide: u32, id: u32, bytes: &[u8]) -> u32
     ensures { λ c. ⌜ gives c 0 [] (now (mem .exit)) ≡ outcome twoRates (now (mem .entry)) (frame line wide id (now (bytes .entry))) ⌝ }
@@ -100,6 +101,24 @@ pub extern "C" fn trawl_start_filter(
     ensures { λ c. ⌜ gives c (now (number .exit)) [] (now (mem .exit)) ≡ outcome twoRates (now (mem .entry)) (call channel (startFilter kind (now (mask .entry)) (now (pattern .entry)))) ⌝ }
 {
     let answer = device::start_filter(mem, channel, kind, mask, pattern);
+    *number = answer.value;
+    answer.code
+}
+
+// A filter more, with the record of its flow control; its number.
+#[no_mangle]
+pub extern "C" fn trawl_start_flow_filter(
+    mem: &mut [u8],
+    channel: u32,
+    kind: u32,
+    mask: &[u8],
+    pattern: &[u8],
+    flow: &[u8],
+    number: &mut u32,
+) -> u32
+    ensures { λ c. ⌜ gives c (now (number .exit)) [] (now (mem .exit)) ≡ outcome twoRates (now (mem .entry)) (call channel (startFlow kind (now (mask .entry)) (now (pattern .entry)) (now (flow .entry)))) ⌝ }
+{
+    let answer = device::start_flow_filter(mem, channel, kind, mask, pattern, flow);
     *number = answer.value;
     answer.code
 }

@@ -40,7 +40,8 @@ use denote.Triple.Walked.{says, Stays, stay-none, stay-slice, walkOf, Walks, end
 use Rattle.machine.specs.Codes.{twoRates}
 use Rattle.machine.specs.Channel.{flat, getList}
 use Rattle.machine.specs.Device.{call}
-use Rattle.layout.specs.Promise.{gives, outcome}
+use Rattle.layout.specs.Promise.{gives}
+use Rattle.memory.specs.Promise.{outcome}
 use Rattle.device_lists.specs.declared.Pair.{Pair}
 use Rattle.device_lists.specs.Lists.{listed}
 use Rattle.walks.proofs.Again.{LentAgain, lends-again, comes-back}
