@@ -1,7 +1,7 @@
-// Numbers in bytes: 32-bit numbers, lowest byte first, and identifiers, highest byte first.
+// Numbers in bytes: 32-bit numbers, lowest byte first, and identifiers, highest byte first. And what is left of a number.
 ghost use mathlib.Core.Path.{_≡_};
 ghost use mathlib.Core.List.{[], _∷_};
-ghost use Prim.Native.Nat.{_+_, _*_, _%_, _≤_, _<_};
+ghost use Prim.Native.Nat.{_+_, _*_, _-_, _%_, _≤_, _<_};
 ghost use lib.Dec.{T};
 ghost use lib.ListN.{length, drop};
 ghost use Rattle.codec.specs.Plain.{all, isByte};
@@ -20,6 +20,16 @@ pub fn low(x: u32) -> u8
     ensures { λ r. ⌜ r ≡ x % 256 ⌝ }
 {
     (x % 256) as u8
+}
+
+// What is left of a number: nothing where more is taken.
+pub fn less(n: u32, k: u32) -> u32
+    ensures { λ r. ⌜ r ≡ n - k ⌝ }
+{
+    if n < k {
+        return 0;
+    }
+    n - k
 }
 
 // The number of four bytes, the lowest first.
