@@ -6,7 +6,7 @@ use lib.ListN.{take}
 use Rattle.codec.specs.Plain.{if_then_else_}
 use Rattle.recording_sizes.specs.Sizes.{recordOn}
 use Rattle.number.specs.Number.{bytesOf}
-use Rattle.machine.specs.Channel.{Call, disconnect, startFilter, startFlow, stopFilter, startPeriodic, stopPeriodic, write, read, takeNext, sent, clear, getParameter, setParameter, lastError, getList, setList, Answer}
+use Rattle.machine.specs.Channel.{Call, disconnect, startFilter, startFlow, stopFilter, startPeriodic, stopPeriodic, write, read, takeNext, sent, clear, getParameter, setParameter, lastError, getList, setList, linkOpen, linkSend, linkReceive, linkEnd, Answer}
 use Rattle.machine.specs.Step.{Event, connect, call, frame, advance, close}
 
 -- these bytes on 0x00, else none
@@ -14,7 +14,7 @@ unfoldable pub onDone : ℕ → List ℕ → List ℕ
 onDone code more = if eqb code 0x00 then more else []
 
 -- behind the code of a call on a channel: read and write always give the count, and read its records; on 0x00 a start gives the number, take the
--- record, get the value. No event asks for the last code, and none is a list of parameters
+-- record, get the value. No event asks for the last code, and none is a list of parameters or a call of a TP2.0 connection
 unfoldable pub afterCall : ℕ → Call → Answer → List ℕ
 afterCall channel disconnect a = []
 afterCall channel (startFilter t m p) a = onDone (a .code) (bytesOf (a .value))
@@ -32,6 +32,10 @@ afterCall channel (setParameter p v) a = []
 afterCall channel lastError a = []
 afterCall channel (getList ps) a = []
 afterCall channel (setList ps) a = []
+afterCall channel (linkOpen x) a = []
+afterCall channel (linkSend m) a = []
+afterCall channel (linkReceive b) a = []
+afterCall channel linkEnd a = []
 
 -- behind the code of an event: on 0x00 connect gives the channel
 unfoldable pub afterCode : Event → Answer → List ℕ

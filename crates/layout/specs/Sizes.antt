@@ -2,6 +2,7 @@
 -- crate `places`, and that the codes of Memory have these sizes is proved in proofs/Sizes. Assumes nothing.
 use Prim.Native.Nat.{ℕ, _+_, _*_}
 use Rattle.machine.specs.Limits.{lines, mostPlaces, mostWritten, mostToRead, recordSize, mostData}
+use Rattle.link_layout.specs.Sizes.{linkSize}
 
 -- a number, and a mark or a count
 abbrev pub numberSize : ℕ
@@ -95,8 +96,12 @@ receivingEnd = receivingAt + receivingSize
 abbrev pub lastAt : ℕ
 lastAt = receivingEnd
 
+-- the TP2.0 connection
+abbrev pub linkAt : ℕ
+linkAt = lastAt + 1
+
 abbrev pub regionSize : ℕ
-regionSize = lastAt + 1
+regionSize = linkAt + linkSize
 
 -- ---- the regions of the four raw channels
 abbrev pub regionsSize : ℕ

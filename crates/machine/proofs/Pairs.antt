@@ -24,7 +24,7 @@ module _ (rates : List ℕ) (now : ℕ) (o : Open) where
   unfolding onCall onOpen onSet setTo withConfig says noted notes
   set-accepted p e =
       let r : ℕ × Config = setIn rates (o .config) (p .0) (p .1) in
-      let o′ : Open = record { config = r .1; filters = o .filters; sending = o .sending; receiving = o .receiving; last = o .last } in
+      let o′ : Open = record { config = r .1; filters = o .filters; sending = o .sending; receiving = o .receiving; last = o .last; link = o .link } in
       record {
         next = o′;
         leaves = ap (λ (k : ℕ). notes k (opened o′)) e;

@@ -19,8 +19,8 @@ use Rattle.layout.specs.Reach.{AllBytes}
 use Rattle.layout.proofs.Calls.{Known, three-known, two-known}
 use Rattle.layout.proofs.Tables.{by-test}
 use Rattle.whole.specs.Device.{channels, powerOn}
-use Rattle.whole.specs.Demands.{pairCodes, refusal, Apart, Names, byCall, SameToEach}
-use Rattle.whole.proofs.Isolation.{different-apart}
+use Rattle.whole.specs.Demands.{pairCodes, refusal, Apart, Names, SameToEach}
+use Rattle.whole.proofs.Isolation.{calls-apart, different-apart}
 use Rattle.memory.specs.Sizes.{boxSize}
 use Rattle.memory.specs.Memory.{memory, image, load, valid}
 use Rattle.memory.specs.Promise.{outcome, powerOnOutcome}
@@ -120,7 +120,7 @@ module _ (rates : List ℕ) (known : Known rates) where
   -- from power-on on, two calls on channels k and k′
   pub calls-commute-from-power-on : (bytes : List ℕ) (xs ys : List Event) (k k′ : ℕ) (x x′ : Call) → AllBytes (xs ++ call k x ∷ call k′ x′ ∷ ys)
       → k ≢ k′ → Commute rates (switchedOn bytes) xs (call k x) (call k′ x′) ys
-  calls-commute-from-power-on bytes xs ys k k′ x x′ b = different-commute-from-power-on bytes xs (call k x) (call k′ x′) ys b k k′ byCall byCall
+  calls-commute-from-power-on bytes xs ys k k′ x x′ b h = apart-commute (switchedOn bytes) xs (call k x) (call k′ x′) ys b (calls-apart k k′ x x′ h)
 
   -- ---- DEMAND 3, arrangement: any two sequences that leave each channel the same events in the same order
 

@@ -14,14 +14,20 @@ use Rattle.codec.specs.Plain.{if_then_else_}
 use Rattle.codec.specs.Code.{via, slot}
 use Rattle.codec.proofs.Tests.{true-T, or-left}
 use Rattle.machine.specs.Limits.{lines}
-use Rattle.machine.specs.Channel.{Chan, closed, opened, Call, lent, Answer, says, onCall, isOpen, notes, noted}
+use Rattle.machine.specs.Channel.{Chan, closed, opened, Call, rawOnly, lent, Answer, says, onCall, isOpen, notes, noted}
 use Rattle.machine.specs.Step.{Event, call}
 use Rattle.machine.proofs.Refusals.{open-codes, open-opens}
+use Rattle.machine.proofs.Link.{linkOf, link-left}
+use Rattle.link.specs.Connection.{Connection}
+use Rattle.link_layout.specs.Connection.{connectionPart}
+use Rattle.link_layout.proofs.Talking.{absent-held}
 use Rattle.layout.specs.Sizes.{regionSize, lastAt}
 use Rattle.layout.specs.Memory.{region}
 use Rattle.layout.specs.Promise.{Result, gives}
 use Rattle.layout.proofs.Held.{call-small}
 use Rattle.layout.proofs.Noted.{last-stored, set-middle}
+use Rattle.layout.proofs.Link.{link-held}
+use Rattle.layout.proofs.Places.{good}
 use Rattle.iso.specs.Iso.{Iso, shut, ready, onIsoCall, isReady, isoNotes, isoNoted}
 use Rattle.iso.proofs.Fair.{ready-codes, ready-readies}
 use Rattle.iso_layout.specs.Sizes.{isoLastAt}
@@ -30,39 +36,59 @@ use Rattle.iso_layout.proofs.Held.{code-small}
 use Rattle.iso_layout.proofs.Region.{iso-notes-stored}
 use Rattle.whole.specs.Device.{Device, step}
 use Rattle.whole.specs.Demands.{EightChannels}
-use Rattle.whole.proofs.Dispatch.{step-call, step-iso-call}
+use Rattle.whole.proofs.Dispatch.{step-call, step-iso-call, step-raw-only}
 use Rattle.memory.specs.Memory.{image, load, valid}
 use Rattle.memory.specs.Promise.{outcome, notedIn}
 use Rattle.memory.proofs.Memory.{ok-load}
 use Rattle.memory.proofs.Reach.{ok-sane}
-use Rattle.memory.proofs.Rows.{Row, raws, isos, rowGives, region-is, region-got, region-long, region-ends, put-back, entered}
+use Rattle.memory.proofs.Rows.{Row, raws, isos, rowGives, ok-here, region-is, region-got, region-long, region-ends, put-back, entered}
 
--- ---- a kind of channel: its row of regions, the numbers of its channels, what a call does, and its last code, a byte of its region
+-- ---- a kind of channel: its row of regions, the numbers of its channels, the calls to which these name none, what a call does, and its last code, a byte of
+-- its region, which is stored beside what is sound
 
 pub record Kind (C : Type 0) : Type 0 where
   pub row : Row C
   pub number : ℕ → ℕ
   pub before : ℕ
   pub numbers : (i : ℕ) → number i ≡ i + suc before
+  pub barred : Call → Bool
   pub on : List ℕ → ℕ → C → Call → C × Answer
   pub openly : C → Bool
   pub notes : ℕ → C → C
   pub last : ℕ
   pub last-in : last < row .size
+  pub sound : C → Bool
   pub unnoted : (c : C) → notes 0 c ≡ c
   pub marked : (c : C) → getD (row .code .put c) 0 0 ≡ (if openly c then 1 else 0)
   pub silent : (c : C) (k : ℕ) → openly c ≡ false → notes k c ≡ c
-  pub stored : (c : C) (k : ℕ) → T (openly c) → length (row .code .put c) ≡ row .size → set (row .code .put c) last (suc k) ≡ row .code .put (notes (suc k) c)
+  pub ok-sound : (c : C) → T (row .code .ok c) → T (sound c)
+  pub stays-sound : (rates : List ℕ) (now : ℕ) (c : C) (x : Call) → T (sound c) → (on rates now c x .1 .code ≡ 0x00 → ⊥) → T (sound (on rates now c x .0))
+  pub stored : (c : C) (k : ℕ) → T (openly c) → T (sound c) → length (row .code .put c) ≡ row .size → set (row .code .put c) last (suc k) ≡ row .code .put (notes (suc k) c)
   pub opens : (rates : List ℕ) (now : ℕ) (c : C) (x : Call) → T (openly c) → T (openly (on rates now c x .0) || eqb (on rates now c x .1 .code) 0)
   pub refuses : (rates : List ℕ) (now : ℕ) (c : C) (x : Call) → openly c ≡ false → on rates now c x ≡ (c, says 0x02 0 (lent x))
   pub small : (rates : List ℕ) (now : ℕ) (c : C) (x : Call) → on rates now c x .1 .code < 256
-  pub steps : (rates : List ℕ) (d : Device) (i : ℕ) (x : Call) → EightChannels d → i < lines
+  pub passed : (rates : List ℕ) (d : Device) (i : ℕ) (x : Call) → EightChannels d → i < lines → barred x ≡ true → step rates d (call (number i) x) ≡ (d, says 0x02 0 (lent x))
+  pub steps : (rates : List ℕ) (d : Device) (i : ℕ) (x : Call) → EightChannels d → i < lines → barred x ≡ false
       → step rates d (call (number i) x) ≡ (row .put i (notes (on rates (d .clock) (row .chan i d) x .1 .code) (on rates (d .clock) (row .chan i d) x .0)) d, on rates (d .clock) (row .chan i d) x .1)
 
-pub raw-stored : (c : Chan) (k : ℕ) → T (isOpen c) → length (raws .code .put c) ≡ regionSize → set (raws .code .put c) lastAt (suc k) ≡ raws .code .put (notes (suc k) c)
-unfolding raws isOpen notes
-raw-stored closed k t long = absurd t
-raw-stored (opened o) k t long = last-stored o (suc k) long
+-- what a store of the last code needs of a raw channel: that its connection is within its limits. A call that is not done leaves it
+unfoldable pub linkSound : Chan → Bool
+linkSound c = connectionPart .ok (linkOf c)
+
+pub raw-sound : (c : Chan) → T (region .ok c) → T (linkSound c)
+unfolding linkSound
+raw-sound closed t = absent-held
+raw-sound (opened o) t = link-held (o .config .flags) (o .link) (good o t .link-ok)
+
+pub raw-stays : (rates : List ℕ) (now : ℕ) (c : Chan) (x : Call) → T (linkSound c) → (onCall rates now c x .1 .code ≡ 0x00 → ⊥) → T (linkSound (onCall rates now c x .0))
+unfolding linkSound onCall
+raw-stays rates now closed x t n = t
+raw-stays rates now (opened o) x t n = subst (λ (c : Connection). T (connectionPart .ok c)) (sym (link-left o rates now x .left n)) t
+
+pub raw-stored : (c : Chan) (k : ℕ) → T (isOpen c) → T (linkSound c) → length (raws .code .put c) ≡ regionSize → set (raws .code .put c) lastAt (suc k) ≡ raws .code .put (notes (suc k) c)
+unfolding raws isOpen notes linkSound
+raw-stored closed k t sound long = absurd t
+raw-stored (opened o) k t sound long = last-stored o (suc k) sound long
 
 pub raw-marked : (c : Chan) → getD (raws .code .put c) 0 0 ≡ (if isOpen c then 1 else 0)
 unfolding raws region via slot isOpen
@@ -125,19 +151,24 @@ rawKind =
       number = λ i. i + 1;
       before = 0;
       numbers = λ i. refl;
+      barred = λ x. false;
       on = onCall;
       openly = isOpen;
       notes = notes;
       last = lastAt;
       last-in = omega arith;
+      sound = linkSound;
       unnoted = λ c. refl;
       marked = raw-marked;
       silent = raw-silent;
+      ok-sound = raw-sound;
+      stays-sound = raw-stays;
       stored = raw-stored;
       opens = raw-opens;
       refuses = raw-refuses;
       small = raw-small;
-      steps = λ rates d i x w h. step-call rates d i x w h;
+      passed = λ rates d i x w h never. absurd (true≢false (sym never));
+      steps = λ rates d i x w h all. step-call rates d i x w h;
     }
 
 unfoldable pub isoKind : Kind Iso
@@ -148,19 +179,24 @@ isoKind =
       number = λ i. i + 5;
       before = lines;
       numbers = λ i. refl;
+      barred = rawOnly;
       on = onIsoCall;
       openly = isReady;
       notes = isoNotes;
       last = isoLastAt;
       last-in = omega arith;
+      sound = λ c. true;
       unnoted = λ c. refl;
       marked = iso-marked;
       silent = iso-silent;
-      stored = iso-notes-stored;
+      ok-sound = λ c t. tt;
+      stays-sound = λ rates now c x t n. tt;
+      stored = λ c k t sound long. iso-notes-stored c k t long;
       opens = iso-opens;
       refuses = iso-refuses;
       small = iso-small;
-      steps = λ rates d i x w h. step-iso-call rates d i x w h;
+      passed = λ rates d i x w h only. step-raw-only rates d (i + 5) x w only (omega arith);
+      steps = λ rates d i x w h all. step-iso-call rates d i x w h all;
     }
 
 -- noting a code in the region is noting it in the memory that the region lies in
@@ -178,12 +214,12 @@ module _ {C : Type 0} (kind : Kind C) where
   w = kind .row
 
   -- the code of a call on a region, noted in the bytes that the call left, is the code noted by the channel
-  notes-stored : (c : C) (k : ℕ) → T (kind .openly c || eqb k 0) → length (w .code .put c) ≡ w .size → notedIn (kind .last) 0 k (w .code .put c) ≡ w .code .put (kind .notes k c)
+  notes-stored : (c : C) (k : ℕ) → T (kind .openly c || eqb k 0) → ((k ≡ 0 → ⊥) → T (kind .sound c)) → length (w .code .put c) ≡ w .size → notedIn (kind .last) 0 k (w .code .put c) ≡ w .code .put (kind .notes k c)
   unfolding notedIn
-  notes-stored c zero t long = ap (w .code .put) (sym (kind .unnoted c))
-  notes-stored c (suc k) t long =
+  notes-stored c zero t sound long = ap (w .code .put) (sym (kind .unnoted c))
+  notes-stored c (suc k) t sound long =
       let z : 0 + kind .last ≡ kind .last = omega arith in
-      ap (λ (i : ℕ). set (w .code .put c) i (suc k)) z ∙ kind .stored c k (open? (kind .openly c) t) long
+      ap (λ (i : ℕ). set (w .code .put c) i (suc k)) z ∙ kind .stored c k (open? (kind .openly c) t) (sound (suc-ne-zero k)) long
     where
       open? : (b : Bool) → T (b || eqb (suc k) 0) → T b
       open? true t = tt
@@ -197,11 +233,14 @@ module _ {C : Type 0} (kind : Kind C) where
     got-here : w .code .get (midOf base (base + w .size - base) m) ≡ w .chan i (load m)
     got-here = ap (w .code .get) lies ∙ region-got m v w i h
 
+    here-sound : T (kind .sound (w .chan i (load m)))
+    here-sound = kind .ok-sound (w .chan i (load m)) (ok-here m v w i h)
+
     -- THE LAW OF CALLS: what a function on the region shows, with its code noted, is the memory's promise
     pub called : (rates : List ℕ) (x : Call) (c u : ℕ) (b ys zs : List ℕ) → length ys ≡ w .size
         → gives c u b ys ≡ rowGives w (kind .on rates (load m .clock) (w .code .get (midOf base (base + w .size - base) m)) x)
-        → zs ≡ notedIn (kind .last) base c (putMid base (base + w .size - base) m ys) → gives c u b zs ≡ outcome rates m (call (kind .number i) x)
-    called rates x c u b ys zs long r n =
+        → zs ≡ notedIn (kind .last) base c (putMid base (base + w .size - base) m ys) → kind .barred x ≡ false → gives c u b zs ≡ outcome rates m (call (kind .number i) x)
+    called rates x c u b ys zs long r n named =
         let a : C × Answer = kind .on rates (load m .clock) (w .chan i (load m)) x in
         let q : gives c u b ys ≡ rowGives w a = r ∙ ap (λ (z : C). rowGives w (kind .on rates (load m .clock) z x)) got-here in
         let y : ys ≡ w .code .put (a .0) = ap (λ (z : Result). z .memory) q in
@@ -209,9 +248,9 @@ module _ {C : Type 0} (kind : Kind C) where
         let in-memory : base ≤ length m = omega (arith, region-ends m v w i h) in
         let in-region : kind .last < length ys = subst (λ (k : ℕ). kind .last < k) (sym long) (kind .last-in) in
         ap (λ (z : List ℕ). gives c u b z) (n ∙ noted-there m (kind .last) base (base + w .size - base) c ys in-memory in-region)
-        ∙ entered m v w i h rates (call (kind .number i) x) (kind .notes (a .1 .code) (a .0), a .1) (kind .steps rates (load m) i x (ok-sane (load m) (ok-load m v) .eight) h) c u b (notedIn (kind .last) 0 c ys)
+        ∙ entered m v w i h rates (call (kind .number i) x) (kind .notes (a .1 .code) (a .0), a .1) (kind .steps rates (load m) i x (ok-sane (load m) (ok-load m v) .eight) h named) c u b (notedIn (kind .last) 0 c ys)
         (ap₂ (λ (z : Result) (l : List ℕ). gives (z .code) (z .value) (z .buffer) l) q
-        (ap₂ (notedIn (kind .last) 0) e y ∙ notes-stored (a .0) (a .1 .code) (kind .opens rates (load m .clock) (w .chan i (load m)) x up) (ap length (sym y) ∙ long)))
+        (ap₂ (notedIn (kind .last) 0) e y ∙ notes-stored (a .0) (a .1 .code) (kind .opens rates (load m .clock) (w .chan i (load m)) x up) (kind .stays-sound rates (load m .clock) (w .chan i (load m)) x here-sound) (ap length (sym y) ∙ long)))
         base is
 
   -- ---- a code that is noted, in the memory
@@ -245,7 +284,7 @@ module _ {C : Type 0} (kind : Kind C) where
             let in-memory : begin ≤ length m = omega (arith, region-ends m v w i h) in
             let in-region : kind .last < length r = subst (λ (n : ℕ). kind .last < n) (sym (region-long m v w i h)) (kind .last-in) in
             sym (put-back m v w i h (kind .notes (suc k) here))
-            ∙ ap (λ (z : List ℕ). putMid begin (w .size) m z) (sym (notes-stored here (suc k) (or-left (kind .openly here) (eqb (suc k) 0) (true-T (kind .openly here) q)) long) ∙ ap (notedIn (kind .last) 0 (suc k)) (sym (region-is m v w i h)))
+            ∙ ap (λ (z : List ℕ). putMid begin (w .size) m z) (sym (notes-stored here (suc k) (or-left (kind .openly here) (eqb (suc k) 0) (true-T (kind .openly here) q)) (λ n. kind .ok-sound here (ok-here m v w i h)) long) ∙ ap (notedIn (kind .last) 0 (suc k)) (sym (region-is m v w i h)))
             ∙ sym (noted-there m (kind .last) begin (w .size) (suc k) r in-memory in-region) ∙ ap (notedIn (kind .last) begin (suc k)) (put-same begin (w .size) m)
             ∙ sym (ap (λ (b : Bool). if eqb (if b then 1 else 0) 1 then set m (begin + kind .last) (suc k) else m) q)
         by false q =

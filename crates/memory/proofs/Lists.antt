@@ -105,8 +105,8 @@ module _ (m : List ℕ) (v : T (valid m)) (k base : ℕ) where
     iso-over s n =
         let r : List ℕ = midOf base (base + isoRegionSize - base) m in
         let o = iso-lent m v k base s in (
-          iso-looked m v k base s rates (setList ps) 4 0 [] (iso-region.stays r o rates (load m .clock) (setList ps) 4 0 [] (iso-set-many rates (readyOf r) ps h)) zs n,
-          iso-looked m v k base s rates (getList ps) 4 0 (flat ps) (iso-region.stays r o rates (load m .clock) (getList ps) 4 0 (flat ps) (iso-get-many rates (readyOf r) ps h)) zs n,
+          iso-looked m v k base s rates (setList ps) 4 0 [] (iso-region.stays r o rates (load m .clock) (setList ps) 4 0 [] (iso-set-many rates (readyOf r) ps h)) zs n refl,
+          iso-looked m v k base s rates (getList ps) 4 0 (flat ps) (iso-region.stays r o rates (load m .clock) (getList ps) 4 0 (flat ps) (iso-get-many rates (readyOf r) ps h)) zs n refl,
         )
 
 module _ (rates : List ℕ) (known : Known rates) where

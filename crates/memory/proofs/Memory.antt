@@ -1,25 +1,28 @@
 -- The memory of the whole box is a lawful code: what is put is got back, and valid bytes are what is put of what is got. Its numbers, checked. Assumes
 -- nothing.
 use mathlib.Core.Path.{_≡_, refl, sym, ap, ap₂, _∙_, subst}
-use Prim.Native.Nat.{ℕ, _+_, _*_}
-use mathlib.Core.List.{List, [], _∷_}
-use lib.ListN.{length}
+use Prim.Native.Nat.{ℕ, zero, suc, _+_, _*_}
+use mathlib.Core.List.{List, [], _∷_, _++_}
+use native.Mathlib.Omega.{arith}
+use lib.ListN.{length, replicate}
 use lib.Dec.{T, eqb, eqb→eq, eqb-refl}
 use Rattle.codec.specs.Plain.{zeros}
 use Rattle.codec.specs.Word.{word}
-use Rattle.codec.specs.Code.{byte, word32, both, bothOn, via, such, mark, many, slot, vacant, upTo, upToOne, beside, eachVia}
+use Rattle.codec.specs.Code.{Code, word32, both, via, putAll, many}
 use Rattle.codec.proofs.Tests.{left, right, join}
 use Rattle.codec.proofs.Lawful.{Lawful, word-lawful, both-lawful, via-lawful}
 use Rattle.codec.proofs.Many.{many-lawful}
+use Rattle.codec.proofs.Lists.{zeros-join}
 use Rattle.machine.specs.Limits.{lines}
-use Rattle.layout.specs.Record.{row, body, rec36, outCell, inCell}
-use Rattle.layout.specs.Memory.{config, filterColumns, filters, periodicColumns, periodics, sendingPart, receivingPart, lastPart, rest, openPart, region}
+use Rattle.machine.specs.Channel.{closed}
+use Rattle.layout.specs.Memory.{region}
 use Rattle.layout.specs.Sizes.{numberSize, regionSize}
 use Rattle.layout.proofs.Memory.{region-lawful}
-use Rattle.layout.proofs.Sizes.{region-size, rows}
+use Rattle.layout.proofs.Sizes.{region-size, closed-zeros, rows}
+use Rattle.iso.specs.Iso.{shut}
 use Rattle.iso_layout.specs.Sizes.{isoRegionSize}
-use Rattle.iso_layout.specs.Region.{rec536, messageCell, frameCell, heardCell, payload508, transferPlain, transferCode, talkCell, talksCode, flightCode, heardPart, isoLastPart, isoRest, readyPart, isoRegion}
-use Rattle.iso_layout.proofs.Sizes.{isoRegion-size}
+use Rattle.iso_layout.specs.Region.{isoRegion}
+use Rattle.iso_layout.proofs.Sizes.{isoRegion-size, shut-zeros}
 use Rattle.iso_layout.proofs.Lawful.{isoRegion-lawful}
 use Rattle.whole.specs.Device.{Device, powerOn}
 use Rattle.memory.specs.Sizes.{rawAt, isosAt, isoAtByte, boxSize}
@@ -39,13 +42,21 @@ pub box-fields : rows 0 (numberSize ∷ regionSize ∷ regionSize ∷ regionSize
     ≡ 0 ∷ rawAt 0 ∷ rawAt 1 ∷ rawAt 2 ∷ rawAt 3 ∷ isoAtByte 0 ∷ isoAtByte 1 ∷ isoAtByte 2 ∷ isoAtByte 3 ∷ boxSize ∷ []
 box-fields = refl
 
-pub box-numbers : rawAt 0 ∷ rawAt 1 ∷ rawAt 2 ∷ rawAt 3 ∷ isoAtByte 0 ∷ isoAtByte 1 ∷ isoAtByte 2 ∷ isoAtByte 3 ∷ boxSize ∷ [] ≡ 4 ∷ 2503 ∷ 5002 ∷ 7501 ∷ 10000 ∷ 18064 ∷ 26128 ∷ 34192 ∷ 42256 ∷ []
+pub box-numbers : rawAt 0 ∷ rawAt 1 ∷ rawAt 2 ∷ rawAt 3 ∷ isoAtByte 0 ∷ isoAtByte 1 ∷ isoAtByte 2 ∷ isoAtByte 3 ∷ boxSize ∷ [] ≡ 4 ∷ 3594 ∷ 7184 ∷ 10774 ∷ 14364 ∷ 22428 ∷ 30492 ∷ 38556 ∷ 46620 ∷ []
 box-numbers = refl
 
 -- power-on's bytes are zeros
+row-zeros : {A : Type 0} (c : Code A) (x : A) (size : ℕ) → c .put x ≡ zeros size → (n : ℕ) → putAll c (replicate n x) ≡ zeros (n * size)
+row-zeros c x size e zero = let z : 0 ≡ 0 * size = omega arith in ap (λ (k : ℕ). zeros k) z
+row-zeros c x size e (suc n) =
+    ap₂ (λ (y z : List ℕ). y ++ z) e (row-zeros c x size e n) ∙ zeros-join size (n * size) (suc n * size) (omega arith)
+
 pub power-on-zeros : image powerOn ≡ zeros boxSize
-unfolding isoRegion readyPart isoRest bothOn config heardPart isoLastPart flightCode talksCode talkCell transferCode transferPlain payload508 heardCell frameCell messageCell rec536 mark via such both many slot upTo word32 byte image powerOn memory region openPart rest receivingPart sendingPart lastPart periodics periodicColumns filters filterColumns outCell inCell rec36 body row vacant upToOne beside eachVia word
-power-on-zeros = refl
+unfolding image powerOn memory via both many word32 word
+power-on-zeros =
+    ap₂ (λ (r z : List ℕ). zeros numberSize ++ (r ++ z)) (row-zeros region closed regionSize closed-zeros lines) (row-zeros isoRegion shut isoRegionSize shut-zeros lines)
+    ∙ ap (λ (z : List ℕ). zeros numberSize ++ z) (zeros-join (lines * regionSize) (lines * isoRegionSize) (lines * regionSize + lines * isoRegionSize) refl)
+    ∙ zeros-join numberSize (lines * regionSize + lines * isoRegionSize) boxSize refl
 
 -- ---- BOTH ROUND TRIPS. What a box lies in is that box again, and a valid memory is the bytes of the box in it
 

@@ -158,7 +158,7 @@ module _ (m : List ℕ) (v : T (valid m)) where
     abbrev begin : ℕ
     begin = w .first + i * w .size
 
-    ok-here : T (w .code .ok (w .chan i (load m)))
+    pub ok-here : T (w .code .ok (w .chan i (load m)))
     ok-here = w .fine (load m) i (ok-load m v)
 
     pub region-is : take (w .size) (drop begin m) ≡ w .code .put (w .chan i (load m))

@@ -13,7 +13,7 @@ use Rattle.codec.specs.Plain.{if_then_else_, within}
 use Rattle.codec.specs.Word.{wordAt}
 use Rattle.codec.proofs.Tests.{true-T}
 use Rattle.machine.specs.Limits.{lines}
-use Rattle.machine.specs.Channel.{Chan, Call, lent, Answer, says, onCall}
+use Rattle.machine.specs.Channel.{Chan, Call, rawOnly, lent, Answer, says, onCall}
 use Rattle.machine.specs.Step.{call}
 use Rattle.layout.specs.Sizes.{regionSize, lastAt}
 use Rattle.layout.specs.Memory.{region}
@@ -23,10 +23,11 @@ use Rattle.iso.specs.Iso.{Iso, onIsoCall}
 use Rattle.iso_layout.specs.Sizes.{isoRegionSize, isoLastAt}
 use Rattle.iso_layout.specs.Region.{isoRegion}
 use Rattle.iso_layout.specs.Promise.{IsoOpened, isoGives, isoOutcome}
-use Rattle.whole.specs.Device.{channels, step}
-use Rattle.whole.proofs.Dispatch.{step-no-channel}
+use Rattle.whole.specs.Device.{Device, channels, step}
+use Rattle.whole.proofs.Dispatch.{step-no-channel, step-raw-only}
+use Rattle.memory.specs.Sizes.{isosAt}
 use Rattle.memory.specs.Memory.{image, load, valid}
-use Rattle.memory.specs.Promise.{outcome, notedIn, Seat, RawSeat, IsoSeat}
+use Rattle.memory.specs.Promise.{outcome, notedIn, Seat, RawSeat, IsoSeat, Placed, RawPlaced}
 use Rattle.memory.proofs.Rows.{Row, raws, isos, rowGives, region-is, region-got, region-long, region-valid, region-ends, put-back, by-step, unmoved}
 use Rattle.memory.proofs.Memory.{ok-load}
 use Rattle.memory.proofs.Reach.{ok-sane}
@@ -85,9 +86,9 @@ module _ {C : Type 0} (kind : Kind C) (m : List ℕ) (v : T (valid m)) (k base :
 
   -- THE LAW OF CALLS: what a function on the region shows, with its code noted, is the memory's promise
   pub seat-called : (rates : List ℕ) (x : Call) (c u : ℕ) (b ys zs : List ℕ) → length ys ≡ w .size → gives c u b ys ≡ rowGives w (on-here rates x)
-      → zs ≡ notedIn (kind .last) base c (putMid base (base + w .size - base) m ys) → gives c u b zs ≡ outcome rates m (call k x)
-  seat-called rates x c u b ys zs long r n =
-      entry.called kind m v i in-row base (s .is) seat-open rates x c u b ys zs long r n ∙ ap (λ (j : ℕ). outcome rates m (call j x)) is-number
+      → zs ≡ notedIn (kind .last) base c (putMid base (base + w .size - base) m ys) → kind .barred x ≡ false → gives c u b zs ≡ outcome rates m (call k x)
+  seat-called rates x c u b ys zs long r n named =
+      entry.called kind m v i in-row base (s .is) seat-open rates x c u b ys zs long r n named ∙ ap (λ (j : ℕ). outcome rates m (call j x)) is-number
 
   -- the code of such a function is a byte, and can be noted in the memory that it leaves
   pub seat-noted : (rates : List ℕ) (x : Call) (c u : ℕ) (b ys : List ℕ) → gives c u b ys ≡ rowGives w (on-here rates x) → length ys ≡ w .size
@@ -97,16 +98,27 @@ module _ {C : Type 0} (kind : Kind C) (m : List ℕ) (v : T (valid m)) (k base :
       (omega (arith, seat-ends), subst (λ (n : ℕ). n < 256) (sym (ap (λ (z : Result). z .code) r)) (kind .small rates (load m .clock) (w .code .get here) x))
 
   -- a call that only looks at its channel's region
-  pub seat-looked : (rates : List ℕ) (x : Call) (c u : ℕ) (b : List ℕ) → gives c u b here ≡ rowGives w (on-here rates x) → (zs : List ℕ) → zs ≡ notedIn (kind .last) base c m → gives c u b zs ≡ outcome rates m (call k x)
-  seat-looked rates x c u b e zs n = seat-called rates x c u b here zs seat-long e (n ∙ ap (notedIn (kind .last) base c) (sym (put-same base (base + w .size - base) m)))
+  pub seat-looked : (rates : List ℕ) (x : Call) (c u : ℕ) (b : List ℕ) → gives c u b here ≡ rowGives w (on-here rates x) → (zs : List ℕ) → zs ≡ notedIn (kind .last) base c m → kind .barred x ≡ false → gives c u b zs ≡ outcome rates m (call k x)
+  seat-looked rates x c u b e zs n named = seat-called rates x c u b here zs seat-long e (n ∙ ap (notedIn (kind .last) base c) (sym (put-same base (base + w .size - base) m))) named
 
 -- ---- where a channel is found
 
 module _ (m : List ℕ) (v : T (valid m)) where
-  -- a number that is not 1 to 8
+  -- a number that names no channel to this call: one that is not 1 to 8; to a call that takes the number of a raw channel, one over 4
   pub no-channel : (k : ℕ) → within 1 channels k ≡ false → (rates : List ℕ) (x : Call) → gives 0x02 0 (lent x) m ≡ outcome rates m (call k x)
   unfolding says
   no-channel k h rates x = unmoved m v rates (call k x) (says 0x02 0 (lent x)) (step-no-channel rates (load m) k x (ok-sane (load m) (ok-load m v) .eight) h)
+
+  pub no-raw-channel : (k : ℕ) → lines < k → (rates : List ℕ) (x : Call) → rawOnly x ≡ true → gives 0x02 0 (lent x) m ≡ outcome rates m (call k x)
+  unfolding says
+  no-raw-channel k h rates x only = unmoved m v rates (call k x) (says 0x02 0 (lent x)) (step-raw-only rates (load m) k x (ok-sane (load m) (ok-load m v) .eight) only h)
+
+  -- where the region of a channel was found, as a call that takes the number of a raw channel sees it
+  pub raw-placed : (k base : ℕ) → Placed m k base → base < isosAt → RawPlaced m k base
+  raw-placed k base p h = record { refused = λ z rates x only. p .refused z rates x; seat = λ n. p .raw n h }
+
+  pub none-placed : (k base : ℕ) → Placed m k base → isosAt ≤ base → RawPlaced m k 0
+  none-placed k base p h = record { refused = λ z. no-raw-channel k (p .iso h .low); seat = λ n. absurd (n refl) }
 
   module _ {C : Type 0} (kind : Kind C) (k base : ℕ) (low : kind .before < k) (high : k ≤ kind .before + lines) (is : base ≡ kind .row .first + (k - suc (kind .before)) * kind .row .size) where
     abbrev at : ℕ
@@ -124,22 +136,31 @@ module _ (m : List ℕ) (v : T (valid m)) where
     -- a channel that is not open
     pub not-open : getD m base 0 ≡ 0 → (rates : List ℕ) (x : Call) → gives 0x02 0 (lent x) m ≡ outcome rates m (call k x)
     unfolding says
-    not-open z rates x = by (kind .openly there) refl
+    not-open z rates x = named? (kind .barred x) refl
       where
-        by : (b : Bool) → kind .openly there ≡ b → gives 0x02 0 (lent x) m ≡ outcome rates m (call k x)
-        by true q = absurd (suc-ne-zero 0 (sym (ap (λ (b : Bool). if b then 1 else 0) q) ∙ sym marked ∙ z))
-        by false q =
-            let number : kind .number at ≡ k = kind .numbers at ∙ omega arith in
-            let d = load m in
+        d : Device
+        d = load m
+
+        number : kind .number at ≡ k
+        number = kind .numbers at ∙ omega arith
+
+        by : kind .barred x ≡ false → (b : Bool) → kind .openly there ≡ b → gives 0x02 0 (lent x) m ≡ outcome rates m (call k x)
+        by named true q = absurd (suc-ne-zero 0 (sym (ap (λ (b : Bool). if b then 1 else 0) q) ∙ sym marked ∙ z))
+        by named false q =
             let begin : ℕ = kind .row .first + at * kind .row .size in
             let same : m ≡ image (kind .row .put at there d) =
             sym (ap (λ (r : List ℕ). putMid begin (kind .row .size) m r) (sym (region-is m v (kind .row) at line)) ∙ put-same begin (kind .row .size) m)
             ∙ put-back m v (kind .row) at line there in
             ap (λ (y : List ℕ). gives 0x02 0 (lent x) y) same
             ∙ by-step m v rates (call k x) (kind .row .put at there d) (says 0x02 0 (lent x))
-            (ap (λ (j : ℕ). step rates d (call j x)) (sym number) ∙ kind .steps rates d at x (ok-sane d (ok-load m v) .eight) line
+            (ap (λ (j : ℕ). step rates d (call j x)) (sym number) ∙ kind .steps rates d at x (ok-sane d (ok-load m v) .eight) line named
             ∙ ap (λ (o : C × Answer). (kind .row .put at (kind .notes (o .1 .code) (o .0)) d, o .1)) (kind .refuses rates (d .clock) there x q)
             ∙ ap (λ (c : C). (kind .row .put at c d, says 0x02 0 (lent x))) (kind .silent there 0x02 q))
+
+        named? : (b : Bool) → kind .barred x ≡ b → gives 0x02 0 (lent x) m ≡ outcome rates m (call k x)
+        named? true q =
+            unmoved m v rates (call k x) (says 0x02 0 (lent x)) (ap (λ (j : ℕ). step rates d (call j x)) (sym number) ∙ kind .passed rates d at x (ok-sane d (ok-load m v) .eight) line q)
+        named? false q = by q (kind .openly there) refl
 
     -- one that is
     pub is-seat : (getD m base 0 ≡ 0 → ⊥) → Seat (kind .before) (kind .row .first) (kind .row .size) m k base
@@ -171,7 +192,7 @@ module _ (m : List ℕ) (v : T (valid m)) (k base : ℕ) where
         → gives c u b ys ≡ callOutcome rates (load m .clock) (midOf base (base + regionSize - base) m) x
         → zs ≡ raw-promise.notedIn base c (putMid base (base + regionSize - base) m ys) → gives c u b zs ≡ outcome rates m (call k x)
     unfolding rawKind raws callOutcome regionGives
-    raw-called rates x c u b ys zs long r n = seat-called rawKind m v k base s rates x c u b ys zs long r (n ∙ same-note base c _)
+    raw-called rates x c u b ys zs long r n = seat-called rawKind m v k base s rates x c u b ys zs long r (n ∙ same-note base c _) refl
 
     pub raw-noted : (rates : List ℕ) (x : Call) (c u : ℕ) (b ys : List ℕ) → gives c u b ys ≡ callOutcome rates (load m .clock) (midOf base (base + regionSize - base) m) x
         → length ys ≡ regionSize → (base + regionSize ≤ length (putMid base (base + regionSize - base) m ys)) × (c < 256)
@@ -181,7 +202,7 @@ module _ (m : List ℕ) (v : T (valid m)) (k base : ℕ) where
     pub raw-looked : (rates : List ℕ) (x : Call) (c u : ℕ) (b : List ℕ) → gives c u b (midOf base (base + regionSize - base) m) ≡ callOutcome rates (load m .clock) (midOf base (base + regionSize - base) m) x
         → (zs : List ℕ) → zs ≡ raw-promise.notedIn base c m → gives c u b zs ≡ outcome rates m (call k x)
     unfolding rawKind raws callOutcome regionGives
-    raw-looked rates x c u b e zs n = seat-looked rawKind m v k base s rates x c u b e zs (n ∙ same-note base c m)
+    raw-looked rates x c u b e zs n = seat-looked rawKind m v k base s rates x c u b e zs (n ∙ same-note base c m) refl
 
   module _ (s : IsoSeat m k base) where
     pub iso-ends : base + isoRegionSize ≤ length m
@@ -194,7 +215,7 @@ module _ (m : List ℕ) (v : T (valid m)) (k base : ℕ) where
 
     pub iso-called : (rates : List ℕ) (x : Call) (c u : ℕ) (b ys zs : List ℕ) → length ys ≡ isoRegionSize
         → gives c u b ys ≡ isoOutcome rates (load m .clock) (midOf base (base + isoRegionSize - base) m) x
-        → zs ≡ notedIn isoLastAt base c (putMid base (base + isoRegionSize - base) m ys) → gives c u b zs ≡ outcome rates m (call k x)
+        → zs ≡ notedIn isoLastAt base c (putMid base (base + isoRegionSize - base) m ys) → rawOnly x ≡ false → gives c u b zs ≡ outcome rates m (call k x)
     unfolding isoKind isos isoOutcome isoGives
     iso-called = seat-called isoKind m v k base s
 
@@ -204,6 +225,6 @@ module _ (m : List ℕ) (v : T (valid m)) (k base : ℕ) where
     iso-noted = seat-noted isoKind m v k base s
 
     pub iso-looked : (rates : List ℕ) (x : Call) (c u : ℕ) (b : List ℕ) → gives c u b (midOf base (base + isoRegionSize - base) m) ≡ isoOutcome rates (load m .clock) (midOf base (base + isoRegionSize - base) m) x
-        → (zs : List ℕ) → zs ≡ notedIn isoLastAt base c m → gives c u b zs ≡ outcome rates m (call k x)
+        → (zs : List ℕ) → zs ≡ notedIn isoLastAt base c m → rawOnly x ≡ false → gives c u b zs ≡ outcome rates m (call k x)
     unfolding isoKind isos isoOutcome isoGives
     iso-looked = seat-looked isoKind m v k base s

@@ -2,12 +2,13 @@
 -- memory, valid or not, and every argument. Assumes nothing.
 use Prim.Native.Nat.{ℕ, zero, suc, _+_, _*_, _-_, _≤_, _<_}
 use mathlib.Core.Path.{_≡_}
+use mathlib.Core.Bool.{true}
 use mathlib.Core.List.{List, []}
 use lib.Dec.{eqb}
 use lib.ListN.{length, getD, set}
 use Rattle.codec.specs.Plain.{if_then_else_}
 use Rattle.machine.specs.Limits.{lines}
-use Rattle.machine.specs.Channel.{Call, lent}
+use Rattle.machine.specs.Channel.{Call, rawOnly, lent}
 use Rattle.machine.specs.Step.{Event, call, lentBy}
 use Rattle.layout.specs.Sizes.{numberSize, regionSize}
 use Rattle.layout.specs.Promise.{Result, gives, answered}
@@ -50,3 +51,8 @@ pub record Placed (m : List ℕ) (k base : ℕ) : Type 0 where
   pub refused : base ≡ 0 → (rates : List ℕ) (x : Call) → gives 0x02 0 (lent x) m ≡ outcome rates m (call k x)
   pub raw : (base ≡ 0 → ⊥) → base < isosAt → RawSeat m k base
   pub iso : isosAt ≤ base → IsoSeat m k base
+
+-- for a call that takes the number of a raw channel: 0 also where the number is that of another channel
+pub record RawPlaced (m : List ℕ) (k base : ℕ) : Type 0 where
+  pub refused : base ≡ 0 → (rates : List ℕ) (x : Call) → rawOnly x ≡ true → gives 0x02 0 (lent x) m ≡ outcome rates m (call k x)
+  pub seat : (base ≡ 0 → ⊥) → RawSeat m k base

@@ -2,7 +2,7 @@
 -- device. They unfold the dispatcher and never what a channel does. Assumes nothing.
 use Prim.Native.Nat.{ℕ, zero, suc, _+_, _-_, _≤_, _<_}
 use mathlib.Core.Path.{_≡_, refl, sym, ap, ap₂, _∙_, subst}
-use mathlib.Core.Bool.{Bool, true, false, true≢false, _&&_, and-true, and-false}
+use mathlib.Core.Bool.{Bool, true, false, true≢false, not, _&&_, _||_, and-true, and-false}
 use mathlib.Core.Option.{Option, none, some}
 use mathlib.Core.List.{List, [], _∷_, _++_, map}
 use native.Mathlib.Nat.{not-suc-le-zero, le-of-suc-le-suc}
@@ -12,15 +12,15 @@ use borrow.Author.Tests.{eqb-true, eqb-false, eq-eqb, ne-eqb, lt-ltb, le-ltb, lt
 use lib.ListN.{length, getD, set, length-set}
 use lib.Seq.{getD-set-same, getD-set-other, set-getD, set-out, ext-getD}
 use lib.Dec.{eqb, leb, ltb, T, ltb→lt, eqb·suc-suc}
-use Rattle.codec.proofs.Tests.{within-low, within-high, between}
+use Rattle.codec.proofs.Tests.{left, right, true-T, T-true, T-false, within-low, within-high, between}
 use Rattle.codec.specs.Plain.{if_then_else_, within}
-use Rattle.machine.specs.Channel.{Chan, closed, Call, Answer, says, lent, Outcome, onCall, onConnect, noted, notedInUse, onFrame, onAdvance}
+use Rattle.machine.specs.Channel.{Chan, closed, Call, rawOnly, Answer, says, lent, Outcome, onCall, onConnect, noted, notedInUse, onFrame, onAdvance}
 use Rattle.iso.specs.Iso.{Iso, shut, onIsoCall, onIsoConnect, onIsoFrame, onIsoAdvance, isoNoted, isoNotedInUse}
 use Rattle.iso.specs.Step.{isoStep}
-use Rattle.whole.specs.Demands.{EightChannels, concerns, withAny}
+use Rattle.whole.specs.Demands.{EightChannels, names, concerns, withAny}
 use Rattle.machine.specs.Step.{Event, connect, call, frame, advance, close, chanStep, clockAfter}
 use Rattle.machine.specs.Step as raw-step
-use Rattle.whole.specs.Device.{Device, Any, raw, iso, chanAt, isoAt, anyAt, lineOf, protocolAt, connected, numbered, touches, speaker, ownAnswer, anyStep, moved, after, answerBy, answer, step, run, answers}
+use Rattle.whole.specs.Device.{Device, Any, raw, iso, chanAt, isoAt, anyAt, lineOf, protocolAt, nameable, connected, numbered, touches, speaker, ownAnswer, anyStep, moved, after, answerBy, answer, step, run, answers}
 
 -- ---- which channels an event touches
 
@@ -32,6 +32,20 @@ line-iso l i h = by (eqb l (i - 4)) refl
     by true q = q ∙ sym (eq-eqb (l + 4) i (omega (arith, eqb-true l (i - 4) q)))
     by false q = q ∙ sym (ne-eqb (l + 4) i (λ e. eqb-false l (i - 4) q (omega arith)))
 
+-- a number that names a place, seen from the place
+place-named : (k i : ℕ) (x : Call) → (eqb k (i + 1) && nameable x i) ≡ (eqb k (i + 1) && names x k)
+unfolding nameable names
+place-named k i x = by (eqb k (i + 1)) refl (rawOnly x)
+  where
+    four : k ≡ i + 1 → (b : Bool) → ltb i 4 ≡ b → ltb i 4 ≡ within 1 4 k
+    four e true q = let h = ltb-true i 4 q in q ∙ sym (between 1 4 k (omega arith) (omega arith))
+    four e false q = let h = ltb-false i 4 q in q ∙ sym (T-false (within 1 4 k) (λ t. let hi = within-high 1 4 k t in omega arith))
+
+    by : (b : Bool) → eqb k (i + 1) ≡ b → (r : Bool) → (b && (not r || ltb i 4)) ≡ (b && (if r then within 1 4 k else true))
+    by true q true = four (eqb-true k (i + 1) q) (ltb i 4) refl
+    by true q false = refl
+    by false q r = refl
+
 -- an event touches exactly the channels that, by demand 3's words, it concerns
 pub touches-concerned : (i : ℕ) (e : Event) → touches e i ≡ concerns i e
 unfolding touches concerns lineOf protocolAt
@@ -40,7 +54,7 @@ touches-concerned i (connect l p f r) = by (ltb i 4) refl
     by : (b : Bool) → ltb i 4 ≡ b → (eqb l (if b then i else i - 4) && eqb p (if b then 5 else 6)) ≡ (if b then eqb l i && eqb p 5 else eqb (l + 4) i && eqb p 6)
     by true q = refl
     by false q = ap (λ (b : Bool). b && eqb p 6) (line-iso l i (ltb-false i 4 q))
-touches-concerned i (call k x) = refl
+touches-concerned i (call k x) = place-named k i x
 touches-concerned i (frame l w n b) = by (ltb i 4) refl
   where
     by : (g : Bool) → ltb i 4 ≡ g → eqb l (if g then i else i - 4) ≡ (if g then eqb l i else eqb (l + 4) i)
@@ -73,9 +87,31 @@ iso-only l f r j = by (ltb j 4) refl
 number-only : (i j : ℕ) → eqb (i + 1) (j + 1) ≡ eqb i j
 number-only i j = rw (add-one i, add-one j, eqb·suc-suc)
 
-pub call-only : (i : ℕ) (x : Call) → Only (call (i + 1) x) i
+pub call-only : (i : ℕ) (x : Call) → nameable x i ≡ true → Only (call (i + 1) x) i
 unfolding touches
-call-only i x j = number-only i j
+call-only i x t j = ap (λ (b : Bool). b && nameable x j) (number-only i j) ∙ by (eqb i j) refl
+  where
+    by : (b : Bool) → eqb i j ≡ b → (b && nameable x j) ≡ b
+    by true q = ap (nameable x) (sym (eqb-true i j q)) ∙ t
+    by false q = refl
+
+-- every call can name the places below 4; one that does not take the number of a raw channel can name all
+pub raw-nameable : (x : Call) (i : ℕ) → i < 4 → nameable x i ≡ true
+unfolding nameable
+raw-nameable x i h = by (rawOnly x)
+  where
+    by : (b : Bool) → (not b || ltb i 4) ≡ true
+    by true = lt-ltb i 4 h
+    by false = refl
+
+pub all-nameable : (x : Call) (i : ℕ) → rawOnly x ≡ false → nameable x i ≡ true
+unfolding nameable
+all-nameable x i h = rw h
+
+-- one that does can name none from 4 on
+pub iso-unnamed : (x : Call) (i : ℕ) → rawOnly x ≡ true → 4 ≤ i → nameable x i ≡ false
+unfolding nameable
+iso-unnamed x i h k = rw h (le-ltb i 4 k)
 
 -- an event that leaves some channel alone leaves the clock
 pub clock-stays : (e : Event) (i now : ℕ) → touches e i ≡ false → clockAfter now e ≡ now
@@ -91,18 +127,24 @@ clock-stays close i now h = refl
 no-place : {i : ℕ} → _≡_ {A = Option ℕ} none (some i) → ⊥
 no-place h = let z : _≡_ {A = ℕ} 0 1 = cc in omega arith
 
--- the place of a number is one less, of the numbers 1 to 8
-numbered-is : (k i : ℕ) → numbered k ≡ some i → (k ≡ i + 1) × (i < 8)
+-- the place of a number is one less, of the numbers 1 to 8 and where the call can name it
+record Numbered (x : Call) (k i : ℕ) : Type 0 where
+  is : k ≡ i + 1
+  eight : i < 8
+  may : nameable x i ≡ true
+
+numbered-is : (x : Call) (k i : ℕ) → numbered x k ≡ some i → Numbered x k i
 unfolding numbered
-numbered-is k i h = by (within 1 8 k) refl h
+numbered-is x k i h = by (within 1 8 k && nameable x (k - 1)) refl h
   where
-    by : (b : Bool) → within 1 8 k ≡ b → (if b then some (k - 1) else none) ≡ some i → (k ≡ i + 1) × (i < 8)
+    by : (b : Bool) → (within 1 8 k && nameable x (k - 1)) ≡ b → (if b then some (k - 1) else none) ≡ some i → Numbered x k i
     by true q e =
-        let t : T (within 1 8 k) = subst T (sym q) tt in
-        let lo = within-low 1 8 k t in
-        let hi = within-high 1 8 k t in
+        let t : T (within 1 8 k && nameable x (k - 1)) = true-T _ q in
+        let in-eight : T (within 1 8 k) = left (within 1 8 k) (nameable x (k - 1)) t in
+        let lo = within-low 1 8 k in-eight in
+        let hi = within-high 1 8 k in-eight in
         let same : k - 1 ≡ i = cc in
-        (omega arith, omega arith)
+        record { is = omega arith; eight = omega arith; may = ap (nameable x) (sym same) ∙ T-true (nameable x (k - 1)) (right (within 1 8 k) (nameable x (k - 1)) t) }
     by false q e = absurd (no-place e)
 
 -- a connect that names a place is one of line below 4 with protocol 5 or 6
@@ -172,7 +214,7 @@ touched-connected l p f r i h t = by (ltb i 4) refl t
 pub speaker-only : (e : Event) (i : ℕ) → speaker e ≡ some i → Only e i
 unfolding speaker
 speaker-only (connect l p f r) i h = connected-only (connected-is l p i h) f r
-speaker-only (call k x) i h = subst (λ (n : ℕ). Only (call n x) i) (sym (numbered-is k i h .0)) (call-only i x)
+speaker-only (call k x) i h = let n = numbered-is x k i h in subst (λ (n : ℕ). Only (call n x) i) (sym (n .is)) (call-only i x (n .may))
 speaker-only (frame l w n b) i h = absurd (no-place h)
 speaker-only (advance t) i h = absurd (no-place h)
 speaker-only close i h = absurd (no-place h)
@@ -181,19 +223,20 @@ speaker-only close i h = absurd (no-place h)
 pub speaker-eight : (e : Event) (i : ℕ) → speaker e ≡ some i → i < 8
 unfolding speaker
 speaker-eight (connect l p f r) i h = connected-eight (connected-is l p i h)
-speaker-eight (call k x) i h = numbered-is k i h .1
+speaker-eight (call k x) i h = numbered-is x k i h .eight
 speaker-eight (frame l w n b) i h = absurd (no-place h)
 speaker-eight (advance t) i h = absurd (no-place h)
 speaker-eight close i h = absurd (no-place h)
 
--- a call whose number is 1 to 8 is answered by its channel
-pub number-place : (i : ℕ) → i < 8 → numbered (i + 1) ≡ some i
+-- a call whose number is 1 to 8, and which can name it, is answered by its channel
+pub number-place : (x : Call) (i : ℕ) → i < 8 → nameable x i ≡ true → numbered x (i + 1) ≡ some i
 unfolding numbered
-number-place i h =
+number-place x i h t =
     let back : i + 1 - 1 ≡ i = omega arith in
-    rw (between 1 8 (i + 1) (omega arith) (omega arith)) (ap {B = Option ℕ} some back)
+    let may : nameable x (i + 1 - 1) ≡ true = ap (nameable x) back ∙ t in
+    rw (between 1 8 (i + 1) (omega arith) (omega arith), may) (ap {B = Option ℕ} some back)
 
-pub call-heard : (k : ℕ) (x : Call) → within 1 8 k ≡ true → speaker (call k x) ≡ some (k - 1)
+pub call-heard : (k : ℕ) (x : Call) → (within 1 8 k && nameable x (k - 1)) ≡ true → speaker (call k x) ≡ some (k - 1)
 unfolding speaker numbered
 call-heard k x h = rw h
 
@@ -449,14 +492,14 @@ module _ (rates : List ℕ) where
   pub step-call : (d : Device) (i : ℕ) (x : Call) → EightChannels d → i < 4
       → step rates d (call (i + 1) x) ≡ (withChan i (noted (onCall rates (d .clock) (chanAt i d) x) .0) d, noted (onCall rates (d .clock) (chanAt i d) x) .1)
   unfolding chanStep speaker
-  step-call d i x w h = step-raw d (call (i + 1) x) i w h (number-place i (omega arith))
+  step-call d i x w h = step-raw d (call (i + 1) x) i w h (number-place x i (omega arith) (raw-nameable x i h))
 
-  pub step-iso-call : (d : Device) (i : ℕ) (x : Call) → EightChannels d → i < 4
+  pub step-iso-call : (d : Device) (i : ℕ) (x : Call) → EightChannels d → i < 4 → rawOnly x ≡ false
       → step rates d (call (i + 5) x) ≡ (withIso i (isoNoted (onIsoCall rates (d .clock) (isoAt i d) x) .0) d, isoNoted (onIsoCall rates (d .clock) (isoAt i d) x) .1)
   unfolding isoStep speaker
-  step-iso-call d i x w h =
+  step-iso-call d i x w h all =
       let same : i + 4 + 1 ≡ i + 5 = omega arith in
-      step-iso d (call (i + 5) x) i w (subst (λ (k : ℕ). numbered k ≡ some (i + 4)) same (number-place (i + 4) (omega arith)))
+      step-iso d (call (i + 5) x) i w (subst (λ (k : ℕ). numbered x k ≡ some (i + 4)) same (number-place x (i + 4) (omega arith) (all-nameable x (i + 4) all)))
 
   -- what holds of a call's outcome on its raw channel holds of the device's step
   pub call-carried : (P : Chan → Answer → Type 0) (d : Device) (i : ℕ) (x : Call) → i < 4 → EightChannels d
@@ -469,13 +512,13 @@ module _ (rates : List ℕ) where
       (subst (λ (c : Chan). P c (o .1)) (sym (getD-set-same (d .chans) i (o .0) closed (omega (arith, w .raws)))) p)
 
   -- and of a call's outcome on its ISO 15765 channel
-  pub iso-call-carried : (P : Iso → Answer → Type 0) (d : Device) (i : ℕ) (x : Call) → i < 4 → EightChannels d
+  pub iso-call-carried : (P : Iso → Answer → Type 0) (d : Device) (i : ℕ) (x : Call) → i < 4 → EightChannels d → rawOnly x ≡ false
       → P (isoNoted (onIsoCall rates (d .clock) (isoAt i d) x) .0) (isoNoted (onIsoCall rates (d .clock) (isoAt i d) x) .1)
       → P (isoAt i (step rates d (call (i + 5) x) .0)) (step rates d (call (i + 5) x) .1)
   unfolding isoAt
-  iso-call-carried P d i x h w p =
+  iso-call-carried P d i x h w all p =
       let o : Iso × Answer = isoNoted (onIsoCall rates (d .clock) (isoAt i d) x) in
-      subst (λ (s : Device × Answer). P (isoAt i (s .0)) (s .1)) (sym (step-iso-call d i x w h))
+      subst (λ (s : Device × Answer). P (isoAt i (s .0)) (s .1)) (sym (step-iso-call d i x w h all))
       (subst (λ (c : Iso). P c (o .1)) (sym (getD-set-same (d .isos) i (o .0) shut (omega (arith, w .isos)))) p)
 
   -- a frame moves both channels of its line
@@ -507,11 +550,25 @@ module _ (rates : List ℕ) where
       → step rates d e ≡ (d, ownAnswer rates e)
   step-nobody d e w still out h = together d e (none-move d e w still out) (answer-own d e h)
 
-  -- a call whose number is not 1 to 8, and a connect to a line over 3 or of another protocol, leave the device
-  pub step-no-channel : (d : Device) (k : ℕ) (x : Call) → EightChannels d → within 1 8 k ≡ false → step rates d (call k x) ≡ (d, says 0x02 0 (lent x))
+  -- a call that names no channel leaves the device, whatever it holds
+  pub step-unnamed : (d : Device) (k : ℕ) (x : Call) → EightChannels d → (within 1 8 k && nameable x (k - 1)) ≡ false → step rates d (call k x) ≡ (d, says 0x02 0 (lent x))
   unfolding ownAnswer raw-step.ownAnswer clockAfter speaker numbered touches
-  step-no-channel d k x w out =
-      step-nobody d (call k x) w refl (λ i h. ne-eqb k (i + 1) (λ q. true≢false (sym (between 1 8 k (omega arith) (omega arith)) ∙ out))) (rw out)
+  step-unnamed d k x w out = step-nobody d (call k x) w refl (λ i h. by i h (eqb k (i + 1)) refl) (rw out)
+    where
+      by : (i : ℕ) → i < 8 → (b : Bool) → eqb k (i + 1) ≡ b → (eqb k (i + 1) && nameable x i) ≡ false
+      by i h true q =
+          let e : k ≡ i + 1 = eqb-true k (i + 1) q in
+          let back : k - 1 ≡ i = omega arith in
+          rw q (sym (ap (nameable x) back) ∙ sym (ap (λ (b : Bool). b && nameable x (k - 1)) (between 1 8 k (omega arith) (omega arith))) ∙ out)
+      by i h false q = rw q
+
+  -- so does a call whose number is not 1 to 8, one that takes a raw channel's number and has another, and a connect to a line over 3 or of another
+  -- protocol
+  pub step-no-channel : (d : Device) (k : ℕ) (x : Call) → EightChannels d → within 1 8 k ≡ false → step rates d (call k x) ≡ (d, says 0x02 0 (lent x))
+  step-no-channel d k x w out = step-unnamed d k x w (ap (λ (b : Bool). b && nameable x (k - 1)) out)
+
+  pub step-raw-only : (d : Device) (k : ℕ) (x : Call) → EightChannels d → rawOnly x ≡ true → 4 < k → step rates d (call k x) ≡ (d, says 0x02 0 (lent x))
+  step-raw-only d k x w only h = step-unnamed d k x w (ap (λ (b : Bool). within 1 8 k && b) (iso-unnamed x (k - 1) only (omega arith)) ∙ and-false (within 1 8 k))
 
   pub step-no-connect : (d : Device) (l p f r : ℕ) → EightChannels d → connected l p ≡ none → step rates d (connect l p f r) ≡ (d, ownAnswer rates (connect l p f r))
   unfolding clockAfter speaker

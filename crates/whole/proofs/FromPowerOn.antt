@@ -1,21 +1,22 @@
 -- DEMANDS 1 AND 3 FROM POWER-ON, in the demands' own words: whatever has happened to the box since, and for any set of rates. No premise on the
 -- device is left. Channels go by their place: place i is channel number i + 1. Assumes nothing.
-use Prim.Native.Nat.{ℕ, _≤_, _<_}
-use mathlib.Core.Path.{_≡_, refl}
+use Prim.Native.Nat.{ℕ, _+_, _≤_, _<_}
+use mathlib.Core.Path.{_≡_, refl, ap, _∙_}
 use mathlib.Core.Logic.{_≢_}
-use mathlib.Core.Bool.{true, false}
+use mathlib.Core.Bool.{Bool, true, false, _&&_, and-false}
 use mathlib.Core.List.{List, _∷_}
 use lib.ListN.{length}
+use lib.Dec.{eqb}
 use Rattle.codec.specs.Plain.{member}
 use Rattle.machine.specs.Limits.{mostPairs}
 use Rattle.machine.specs.Channel.{Call, Pairs, flat, getParameter, setParameter, getList, setList, says}
 use Rattle.machine.specs.Step.{Event, call, lentBy}
 use Rattle.whole.specs.Device.{channels, powerOn, anyAt, step, run, answers}
-use Rattle.whole.specs.Demands.{EightChannels, pairCodes, refusal, SetEnded, GetEnded, remembers, concerns, strike, answersOf, Projected, Exchanged, SameToEach, Arranged, Ignored, Names, byCall}
+use Rattle.whole.specs.Demands.{EightChannels, pairCodes, refusal, SetEnded, GetEnded, remembers, names, concerns, strike, answersOf, Projected, Exchanged, SameToEach, Arranged, Ignored, Names}
 use Rattle.whole.proofs.Dispatch.{run-channels-kept}
 use Rattle.whole.proofs.Refusals.{refused-leaves}
 use Rattle.whole.proofs.Lists.{set-ended, get-ended, set-at-once, get-at-once}
-use Rattle.whole.proofs.Isolation.{projection-from, ignored, arranged, different-exchange}
+use Rattle.whole.proofs.Isolation.{projection-from, ignored, exchange, arranged, calls-apart, different-exchange}
 
 eight-at-first : EightChannels powerOn
 unfolding powerOn
@@ -71,7 +72,7 @@ module _ (rates : List ℕ) where
   -- same answer
   pub calls-commute : (before : List Event) (k k′ : ℕ) (x x′ : Call) (after : List Event) → k ≢ k′
       → Exchanged rates powerOn before (call k x) (call k′ x′) after
-  calls-commute before k k′ x x′ after h = different-exchange rates powerOn before after eight-at-first byCall byCall h
+  calls-commute before k k′ x x′ after h = exchange rates powerOn before (call k x) (call k′ x′) after eight-at-first (calls-apart k k′ x x′ h)
 
   -- so do any two neighbours, calls or connects, that name different channels
   pub neighbours-commute : (before : List Event) {e e′ : Event} {k k′ : ℕ} (after : List Event) → Names e k → Names e′ k′ → k ≢ k′
@@ -81,6 +82,11 @@ module _ (rates : List ℕ) where
   -- AN EVENT THAT CONCERNS NO CHANNEL, as a call that names none, changes nothing, and no state shows in its answer
   pub nobodys-event : (es : List Event) (e : Event) → ((i : ℕ) → i < channels → concerns i e ≡ false) → Ignored rates (run rates powerOn es) e
   nobodys-event es e out = ignored rates (run rates powerOn es) e (eight es) out
+
+  -- such is a call that takes the number of a raw channel and has another, whatever channel is open under it
+  pub unnamed-call : (es : List Event) (k : ℕ) (x : Call) → names x k ≡ false → Ignored rates (run rates powerOn es) (call k x)
+  unfolding concerns
+  unnamed-call es k x out = nobodys-event es (call k x) (λ i h. ap (λ (b : Bool). eqb k (i + 1) && b) out ∙ and-false (eqb k (i + 1)))
 
   -- ARRANGEMENT. Two sequences that leave each channel the same events in the same order end in the same box, and each channel receives the same
   -- answers

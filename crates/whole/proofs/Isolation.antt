@@ -12,10 +12,11 @@ use lib.ListN.{length}
 use lib.Seq.{ext-getD}
 use lib.Dec.{T, eqb, eqb→eq, lit<}
 use Rattle.codec.specs.Plain.{if_then_else_}
-use Rattle.machine.specs.Channel.{Answer}
-use Rattle.machine.specs.Step.{Event, connect, clockAfter}
+use Rattle.codec.proofs.Tests.{left}
+use Rattle.machine.specs.Channel.{Call, Answer}
+use Rattle.machine.specs.Step.{Event, connect, call, clockAfter}
 use Rattle.whole.specs.Device.{Device, Any, anyAt, touches, speaker, anyStep, after, answer, step, run, answers}
-use Rattle.whole.specs.Demands.{EightChannels, concerns, strike, answersOf, Alike, Projected, Apart, Exchanged, SameToEach, Arranged, Ignored, Names, byCall, byRaw, byIso}
+use Rattle.whole.specs.Demands.{EightChannels, names, concerns, strike, answersOf, Alike, Projected, Apart, Exchanged, SameToEach, Arranged, Ignored, Names, byCall, byRaw, byIso}
 use Rattle.whole.proofs.Dispatch.{touches-concerned, speaker-only, speaker-eight, raw-only, iso-only, clock-stays, same-places, channels-kept, chan-after, chan-stays, none-move, answer-spoken, answer-own, run-channels-kept}
 
 -- ---- the dispatcher against demand 3's words
@@ -211,15 +212,22 @@ module _ (rates : List ℕ) where
 only-named : (e : Event) (i j : ℕ) → ((j : ℕ) → touches e j ≡ eqb i j) → T (concerns j e) → i + 1 ≡ j + 1
 only-named e i j only t = ap (λ (n : ℕ). n + 1) (eqb→eq i j (subst T (sym (touches-concerned j e) ∙ only j) t))
 
-named : {e : Event} {k : ℕ} (i : ℕ) → Names e k → T (concerns i e) → k ≡ i + 1
+called : (k : ℕ) (x : Call) (i : ℕ) → T (concerns i (call k x)) → k ≡ i + 1
 unfolding concerns
-named i (byCall {k = k}) t = eqb→eq k (i + 1) t
+called k x i t = eqb→eq k (i + 1) (left (eqb k (i + 1)) (names x k) t)
+
+named : {e : Event} {k : ℕ} (i : ℕ) → Names e k → T (concerns i e) → k ≡ i + 1
+named i (byCall {k = k} {x = x} h) t = called k x i t
 named i (byRaw {l = l} {f = f} {r = r} h) t = only-named (connect l 5 f r) l i (raw-only l f r h) t
 named i (byIso {l = l} {f = f} {r = r} h) t = omega (arith, only-named (connect l 6 f r) (l + 4) i (iso-only l f r) t)
 
 -- DEMAND 3. Two events that name different channels are apart
 pub different-apart : {e e′ : Event} {k k′ : ℕ} → Names e k → Names e′ k′ → k ≢ k′ → Apart e e′
 different-apart n n′ h i k t t′ = h (named i n t ∙ sym (named i n′ t′))
+
+-- so are two calls of different numbers, whether they name a channel or none
+pub calls-apart : (k k′ : ℕ) (x x′ : Call) → k ≢ k′ → Apart (call k x) (call k′ x′)
+calls-apart k k′ x x′ h i j t t′ = h (called k x i t ∙ sym (called k′ x′ i t′))
 
 -- DEMAND 3, exchange, for neighbours that name different channels
 pub different-exchange : (rates : List ℕ) (d : Device) (xs : List Event) (ys : List Event) {e e′ : Event} {k k′ : ℕ} → EightChannels d

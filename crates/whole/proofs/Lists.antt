@@ -3,7 +3,7 @@
 use mathlib.Core.Path.{_≡_, refl, sym, ap, ap₂, _∙_, subst}
 use Prim.Native.Nat.{ℕ, _+_, _-_, _≤_, _<_}
 use native.Mathlib.Omega.{arith}
-use mathlib.Core.Bool.{Bool, true, false, true≢false}
+use mathlib.Core.Bool.{Bool, true, false, true≢false, _&&_}
 use mathlib.Core.List.{List, [], _∷_, _++_}
 use mathlib.Core.Logic.{_⊎_, inl, inr}
 use lib.ListN.{length, length-append}
@@ -13,16 +13,16 @@ use borrow.Author.Tests.{eq-eqb, ne-eqb, ltb-true, ltb-false}
 use Rattle.codec.specs.Plain.{if_then_else_, within, member}
 use Rattle.codec.proofs.Tests.{true-T, within-low, within-high}
 use Rattle.machine.specs.Limits.{mostPairs}
-use Rattle.machine.specs.Channel.{Open, Chan, closed, opened, Pairs, flat, Call, getParameter, setParameter, getList, setList, Answer, says, lent, Outcome, setTo, onSet, onOpen, onCall, notes, noted}
+use Rattle.machine.specs.Channel.{Open, Chan, closed, opened, Pairs, flat, Call, rawOnly, getParameter, setParameter, getList, setList, Answer, says, lent, Outcome, setTo, onSet, onOpen, onCall, notes, noted}
 use Rattle.machine.specs.Step.{Event, call, chanStep, clockAfter}
 use Rattle.machine.proofs.Parameters.{either, set-many, get-many}
 use Rattle.machine.proofs.Pairs as raw-lists
 use Rattle.iso.specs.Iso.{OpenIso, Iso, shut, ready, IsoOutcome, isoSetTo, onIsoSet, onReady, onIsoCall, isoNotes, isoNoted}
 use Rattle.iso.specs.Step.{isoStep}
 use Rattle.iso.proofs.Lists as iso-lists
-use Rattle.whole.specs.Device.{channels, Device, Any, raw, iso, anyAt, touches, speaker, anyStep, after, step}
+use Rattle.whole.specs.Device.{channels, Device, Any, raw, iso, anyAt, nameable, touches, speaker, anyStep, after, step}
 use Rattle.whole.specs.Demands.{EightChannels, SetEnded, GetEnded, setSingly, getSingly, pairCodes, withAny}
-use Rattle.whole.proofs.Dispatch.{same-device, withAny-same, number-place, call-heard, channels-kept, chan-moves, after-one, call-only, step-spoken, step-no-channel}
+use Rattle.whole.proofs.Dispatch.{same-device, withAny-same, all-nameable, number-place, call-heard, channels-kept, chan-moves, after-one, call-only, step-spoken, step-no-channel}
 
 -- ---- an open channel of either kind
 
@@ -134,18 +134,18 @@ module _ (rates : List ℕ) (d : Device) (i : ℕ) (a : OpenAt i d) where
   abbrev from : Any × Answer → Device × Answer
   from x = (withAny i (x .0) d, x .1)
 
-  pub step-open : (x : Call) → at x ≡ from (here x)
+  pub step-open : (x : Call) → rawOnly x ≡ false → at x ≡ from (here x)
   unfolding speaker
-  step-open x = step-spoken rates d (call (i + 1) x) i (a .eight) (number-place i (a .place))
+  step-open x all = step-spoken rates d (call (i + 1) x) i (a .eight) (number-place x i (a .place) (all-nameable x i all))
 
-  code-here : (x : Call) → here x .1 .code ≡ at x .1 .code
-  code-here x = ap (λ (s : Device × Answer). s .1 .code) (sym (step-open x))
+  code-here : (x : Call) → rawOnly x ≡ false → here x .1 .code ≡ at x .1 .code
+  code-here x all = ap (λ (s : Device × Answer). s .1 .code) (sym (step-open x all))
 
   pub set-none : at (setList []) ≡ (d, says 0x00 0 [])
-  set-none = step-open (setList []) ∙ ap from (set-nothing rates (d .clock) (i + 1) (anyAt i d) (a .is)) ∙ ap (λ (x : Device). (x, says 0x00 0 [])) (withAny-same i d)
+  set-none = step-open (setList []) refl ∙ ap from (set-nothing rates (d .clock) (i + 1) (anyAt i d) (a .is)) ∙ ap (λ (x : Device). (x, says 0x00 0 [])) (withAny-same i d)
 
   pub get-none : at (getList []) ≡ (d, says 0x00 0 [])
-  get-none = step-open (getList []) ∙ ap from (get-nothing rates (d .clock) (i + 1) (anyAt i d) (a .is)) ∙ ap (λ (x : Device). (x, says 0x00 0 [])) (withAny-same i d)
+  get-none = step-open (getList []) refl ∙ ap from (get-nothing rates (d .clock) (i + 1) (anyAt i d) (a .is)) ∙ ap (λ (x : Device). (x, says 0x00 0 [])) (withAny-same i d)
 
   module _ (p : ℕ × ℕ) where
     abbrev one : Call
@@ -159,9 +159,9 @@ module _ (rates : List ℕ) (d : Device) (i : ℕ) (a : OpenAt i d) where
     pub set-step : at one .1 .code ≡ 0 → SetGoes
     unfolding step clockAfter touches
     set-step e =
-        let s : SetOn rates (d .clock) (i + 1) (anyAt i d) p = set-accepted rates (d .clock) (i + 1) (anyAt i d) (a .is) p (code-here one ∙ e) in
+        let s : SetOn rates (d .clock) (i + 1) (anyAt i d) p = set-accepted rates (d .clock) (i + 1) (anyAt i d) (a .is) p (code-here one refl ∙ e) in
         let d′ : Device = after rates d (call (i + 1) one) in
-        let there : anyAt i d′ ≡ here one .0 = chan-moves rates d (call (i + 1) one) i (a .eight) (a .place) (eq-eqb (i + 1) (i + 1) refl) in
+        let there : anyAt i d′ ≡ here one .0 = chan-moves rates d (call (i + 1) one) i (a .eight) (a .place) (ap (λ (b : Bool). b && nameable one i) (eq-eqb (i + 1) (i + 1) refl) ∙ all-nameable one i refl) in
         let clock : d′ .clock ≡ d .clock = unfold after clockAfter in refl in
         let open-there : OpenAt i d′ = record { place = a .place; eight = channels-kept rates d (call (i + 1) one) (a .eight); is = subst IsOpen (sym there) (s .still) } in
         record {
@@ -169,42 +169,42 @@ module _ (rates : List ℕ) (d : Device) (i : ℕ) (a : OpenAt i d) where
           goes = λ ps h.
               let x : Event = call (i + 1) (setList ps) in
               let next : Any × Answer = anyStep rates (d .clock) (here one .0) x in
-              step-open (setList (p ∷ ps)) ∙ ap from (s .goes ps h)
-              ∙ ap (λ (z : Device). (z, next .1)) (sym (twice rates (d .clock) i d (anyAt i d) (call (i + 1) one) x) ∙ ap (withAny i (next .0)) (sym (after-one rates d (call (i + 1) one) i (a .eight) (call-only i one))))
-              ∙ sym (step-spoken rates d′ x i (open-there .eight) (unfold speaker in number-place i (a .place))
+              step-open (setList (p ∷ ps)) refl ∙ ap from (s .goes ps h)
+              ∙ ap (λ (z : Device). (z, next .1)) (sym (twice rates (d .clock) i d (anyAt i d) (call (i + 1) one) x) ∙ ap (withAny i (next .0)) (sym (after-one rates d (call (i + 1) one) i (a .eight) (call-only i one (all-nameable one i refl)))))
+              ∙ sym (step-spoken rates d′ x i (open-there .eight) (unfold speaker in number-place (setList ps) i (a .place) (all-nameable (setList ps) i refl))
               ∙ ap₂ (λ (t : ℕ) (c : Any). (withAny i (anyStep rates t c x .0) d′, anyStep rates t c x .1)) clock there);
         }
 
     pub set-stop : (ps : Pairs) → length (p ∷ ps) ≤ mostPairs → (at one .1 .code ≡ 0 → ⊥) → at (setList (p ∷ ps)) ≡ at one
     set-stop ps h n =
-        step-open (setList (p ∷ ps)) ∙ ap from (set-refused rates (d .clock) (i + 1) (anyAt i d) (a .is) p ps h (λ z. n (sym (code-here one) ∙ z))) ∙ sym (step-open one)
+        step-open (setList (p ∷ ps)) refl ∙ ap from (set-refused rates (d .clock) (i + 1) (anyAt i d) (a .is) p ps h (λ z. n (sym (code-here one refl) ∙ z))) ∙ sym (step-open one refl)
 
     set-answers : at one .1 ≡ says (at one .1 .code) 0 []
     set-answers =
-        ap (λ (s : Device × Answer). s .1) (step-open one) ∙ set-says rates (d .clock) (i + 1) (anyAt i d) (a .is) (p .0) (p .1)
-        ∙ ap (λ (n : ℕ). says n 0 []) (code-here one)
+        ap (λ (s : Device × Answer). s .1) (step-open one refl) ∙ set-says rates (d .clock) (i + 1) (anyAt i d) (a .is) (p .0) (p .1)
+        ∙ ap (λ (n : ℕ). says n 0 []) (code-here one refl)
 
     -- an accepted get leaves the device
     pub get-leaves-all : at (getParameter (p .0)) .1 .code ≡ 0 → at (getParameter (p .0)) .0 ≡ d
     get-leaves-all e =
-        ap (λ (s : Device × Answer). s .0) (step-open (getParameter (p .0)))
-        ∙ ap (λ (c : Any). withAny i c d) (get-leaves rates (d .clock) (i + 1) (anyAt i d) (a .is) p (code-here (getParameter (p .0)) ∙ e)) ∙ withAny-same i d
+        ap (λ (s : Device × Answer). s .0) (step-open (getParameter (p .0)) refl)
+        ∙ ap (λ (c : Any). withAny i c d) (get-leaves rates (d .clock) (i + 1) (anyAt i d) (a .is) p (code-here (getParameter (p .0)) refl ∙ e)) ∙ withAny-same i d
 
     pub get-step : (ps : Pairs) → length (p ∷ ps) ≤ mostPairs → at (getParameter (p .0)) .1 .code ≡ 0
         → at (getList (p ∷ ps)) ≡ (at (getList ps) .0, says (at (getList ps) .1 .code) 0 (p .0 ∷ at (getParameter (p .0)) .1 .value ∷ at (getList ps) .1 .buffer))
     get-step ps h e =
-        step-open (getList (p ∷ ps)) ∙ ap from (get-goes rates (d .clock) (i + 1) (anyAt i d) (a .is) p ps h (code-here (getParameter (p .0)) ∙ e))
-        ∙ sym (ap₂ (λ (s v : Device × Answer). (s .0, says (s .1 .code) 0 (p .0 ∷ v .1 .value ∷ s .1 .buffer))) (step-open (getList ps)) (step-open (getParameter (p .0))))
+        step-open (getList (p ∷ ps)) refl ∙ ap from (get-goes rates (d .clock) (i + 1) (anyAt i d) (a .is) p ps h (code-here (getParameter (p .0)) refl ∙ e))
+        ∙ sym (ap₂ (λ (s v : Device × Answer). (s .0, says (s .1 .code) 0 (p .0 ∷ v .1 .value ∷ s .1 .buffer))) (step-open (getList ps) refl) (step-open (getParameter (p .0)) refl))
 
     pub get-stop : (ps : Pairs) → length (p ∷ ps) ≤ mostPairs → (at (getParameter (p .0)) .1 .code ≡ 0 → ⊥)
         → at (getList (p ∷ ps)) ≡ (at (getParameter (p .0)) .0, says (at (getParameter (p .0)) .1 .code) 0 (flat (p ∷ ps)))
     get-stop ps h n =
         let x : Call = getParameter (p .0) in
-        step-open (getList (p ∷ ps)) ∙ ap from (get-refused rates (d .clock) (i + 1) (anyAt i d) (a .is) p ps h (λ z. n (sym (code-here x) ∙ z)))
-        ∙ sym (ap (λ (s : Device × Answer). (s .0, says (s .1 .code) 0 (flat (p ∷ ps)))) (step-open x))
+        step-open (getList (p ∷ ps)) refl ∙ ap from (get-refused rates (d .clock) (i + 1) (anyAt i d) (a .is) p ps h (λ z. n (sym (code-here x refl) ∙ z)))
+        ∙ sym (ap (λ (s : Device × Answer). (s .0, says (s .1 .code) 0 (flat (p ∷ ps)))) (step-open x refl))
 
 -- a call on no channel or on a closed one is refused with 0x02; else its channel is open
-by-channel : {G : Type 0} (rates : List ℕ) (d : Device) → EightChannels d → (k : ℕ) → (((x : Call) → step rates d (call k x) ≡ (d, says 0x02 0 (lent x))) → G)
+by-channel : {G : Type 0} (rates : List ℕ) (d : Device) → EightChannels d → (k : ℕ) → (((x : Call) → rawOnly x ≡ false → step rates d (call k x) ≡ (d, says 0x02 0 (lent x))) → G)
     → ((i : ℕ) → k ≡ i + 1 → OpenAt i d → G) → G
 unfolding anyStep chanStep isoStep onCall noted notes onIsoCall isoNoted isoNotes says
 by-channel {G} rates d eight k refused there = by (within 1 channels k) refl
@@ -212,8 +212,8 @@ by-channel {G} rates d eight k refused there = by (within 1 channels k) refl
     on-closed : (c : Any) → anyAt (k - 1) d ≡ c → ((x : Call) → anyStep rates (d .clock) c (call k x) ≡ (c, says 0x02 0 (lent x))) → within 1 channels k ≡ true → G
     on-closed c e says-so t =
         refused
-        (λ x.
-        step-spoken rates d (call k x) (k - 1) eight (call-heard k x t)
+        (λ x all.
+        step-spoken rates d (call k x) (k - 1) eight (call-heard k x (ap (λ (b : Bool). b && nameable x (k - 1)) t ∙ all-nameable x (k - 1) all))
         ∙ ap (λ (z : Any). (withAny (k - 1) (anyStep rates (d .clock) z (call k x) .0) d, anyStep rates (d .clock) z (call k x) .1)) e
         ∙ ap (λ (z : Any × Answer). (withAny (k - 1) (z .0) d, z .1)) (says-so x)
         ∙ ap (λ (z : Device). (z, says 0x02 0 (lent x))) (ap (λ (z : Any). withAny (k - 1) z d) (sym e) ∙ withAny-same (k - 1) d))
@@ -231,7 +231,7 @@ by-channel {G} rates d eight k refused there = by (within 1 channels k) refl
     on-place (iso (ready o)) e t = on-open (subst IsOpen (sym e) (open-iso o)) t
 
     by : (b : Bool) → within 1 channels k ≡ b → G
-    by false t = refused (λ x. step-no-channel rates d k x eight t)
+    by false t = refused (λ x all. step-no-channel rates d k x eight t)
     by true t = on-place (anyAt (k - 1) d) refl t
 
 -- ---- A LIST IS ITS SINGLE CALLS IN A ROW, up to the first refused one
@@ -289,7 +289,7 @@ module _ (rates : List ℕ) (d : Device) (eight : EightChannels d) (k : ℕ) whe
   pub one-set : (p v : ℕ) → step rates d (call k (setList ((p, v) ∷ []))) ≡ step rates d (call k (setParameter p v))
   unfolding lent setSingly
   one-set p v =
-      by-channel rates d eight k (λ no. no (setList ((p, v) ∷ [])) ∙ sym (no (setParameter p v)))
+      by-channel rates d eight k (λ no. no (setList ((p, v) ∷ [])) refl ∙ sym (no (setParameter p v) refl))
       (λ i e a.
       subst (λ (j : ℕ). step rates d (call j (setList ((p, v) ∷ []))) ≡ step rates d (call j (setParameter p v))) (sym e)
       (set-in-row rates i ((p, v) ∷ []) d a (omega arith) ∙ accepted i a (either _)))
@@ -304,7 +304,7 @@ module _ (rates : List ℕ) (d : Device) (eight : EightChannels d) (k : ℕ) whe
   pub one-get : (p w : ℕ) → step rates d (call k (getList ((p, w) ∷ []))) ≡ (step rates d (call k (getParameter p)) .0, inPair p w (step rates d (call k (getParameter p)) .1))
   unfolding lent flat says getSingly
   one-get p w =
-      by-channel rates d eight k (λ no. no (getList ((p, w) ∷ [])) ∙ ap (λ (s : Device × Answer). (s .0, inPair p w (s .1))) (sym (no (getParameter p))))
+      by-channel rates d eight k (λ no. no (getList ((p, w) ∷ [])) refl ∙ ap (λ (s : Device × Answer). (s .0, inPair p w (s .1))) (sym (no (getParameter p) refl)))
       (λ i e a.
       subst (λ (j : ℕ). step rates d (call j (getList ((p, w) ∷ []))) ≡ (step rates d (call j (getParameter p)) .0, inPair p w (step rates d (call j (getParameter p)) .1))) (sym e)
       (get-in-row rates i ((p, w) ∷ []) d a (omega arith) ∙ accepted (step rates d (call (i + 1) (getParameter p))) (either _)))
@@ -402,17 +402,17 @@ get-ended-at rates i (p ∷ ps) d a h n = by (either (s .1 .code)) (get-ended-at
 
 module _ (rates : List ℕ) (d : Device) (eight : EightChannels d) (k : ℕ) where
   -- a list that is answered with neither 0x02 nor 0x04 was begun
-  begun : (ps : Pairs) (x : Call) → ((j : ℕ) (c : Any) → IsOpen c → mostPairs < length ps → anyStep rates (d .clock) c (call j x) .1 .code ≡ 0x04)
+  begun : (ps : Pairs) (x : Call) → rawOnly x ≡ false → ((j : ℕ) (c : Any) → IsOpen c → mostPairs < length ps → anyStep rates (d .clock) c (call j x) .1 .code ≡ 0x04)
       → (step rates d (call k x) .1 .code ≡ 0x02 → ⊥) → (step rates d (call k x) .1 .code ≡ 0x04 → ⊥) → Begun d k ps
   unfolding says
-  begun ps x many no2 no4 = by-channel rates d eight k (λ no. absurd (no2 (ap (λ (s : Device × Answer). s .1 .code) (no x)))) there
+  begun ps x all many no2 no4 = by-channel rates d eight k (λ no. absurd (no2 (ap (λ (s : Device × Answer). s .1 .code) (no x all)))) there
     where
       there : (i : ℕ) → k ≡ i + 1 → OpenAt i d → Begun d k ps
       there i e a = short (ltb mostPairs (length ps)) refl
         where
           short : (b : Bool) → ltb mostPairs (length ps) ≡ b → Begun d k ps
           short true t =
-              absurd (no4 (ap (λ (j : ℕ). step rates d (call j x) .1 .code) e ∙ ap (λ (s : Device × Answer). s .1 .code) (step-open rates d i a x) ∙ many (i + 1) (anyAt i d) (a .is) (ltb-true mostPairs (length ps) t)))
+              absurd (no4 (ap (λ (j : ℕ). step rates d (call j x) .1 .code) e ∙ ap (λ (s : Device × Answer). s .1 .code) (step-open rates d i a x all) ∙ many (i + 1) (anyAt i d) (a .is) (ltb-true mostPairs (length ps) t)))
           short false t = record { place = i; number = e; there = a; few = ltb-false mostPairs (length ps) t }
 
   -- a code that a pair gave is neither 0x00 nor 0x02 nor 0x04
@@ -423,14 +423,14 @@ module _ (rates : List ℕ) (d : Device) (eight : EightChannels d) (k : ℕ) whe
   pub set-ended : (ps : Pairs) → member (step rates d (call k (setList ps)) .1 .code) pairCodes ≡ true → SetEnded rates d k ps
   unfolding pairCodes member
   set-ended ps t =
-      let b = begun ps (setList ps) (λ j c o h. many-set rates (d .clock) j c o ps h) (not-pair _ 2 t refl) (not-pair _ 4 t refl) in
+      let b = begun ps (setList ps) refl (λ j c o h. many-set rates (d .clock) j c o ps h) (not-pair _ 2 t refl) (not-pair _ 4 t refl) in
       subst (λ (j : ℕ). (step rates d (call j (setList ps)) .1 .code ≡ 0 → ⊥) → SetEnded rates d j ps) (sym (b .number)) (set-ended-at rates (b .place) ps d (b .there) (b .few)) (not-pair _ 0 t refl)
 
   -- A GET LIST THAT A PAIR ENDED: the accepted pairs have their values, and the refused one and all behind it stay
   pub get-ended : (ps : Pairs) → member (step rates d (call k (getList ps)) .1 .code) pairCodes ≡ true → GetEnded rates d k ps
   unfolding pairCodes member
   get-ended ps t =
-      let b = begun ps (getList ps) (λ j c o h. many-get rates (d .clock) j c o ps h) (not-pair _ 2 t refl) (not-pair _ 4 t refl) in
+      let b = begun ps (getList ps) refl (λ j c o h. many-get rates (d .clock) j c o ps h) (not-pair _ 2 t refl) (not-pair _ 4 t refl) in
       subst (λ (j : ℕ). (step rates d (call j (getList ps)) .1 .code ≡ 0 → ⊥) → GetEnded rates d j ps) (sym (b .number)) (get-ended-at rates (b .place) ps d (b .there) (b .few)) (not-pair _ 0 t refl)
 
   -- ---- A LIST WHOSE FIRST PAIR IS REFUSED does what that pair alone does: the refusal of a single call, and so nothing but its code is left
@@ -439,7 +439,7 @@ module _ (rates : List ℕ) (d : Device) (eight : EightChannels d) (k : ℕ) whe
     pub set-at-once : (step rates d (call k (setParameter (p .0) (p .1))) .1 .code ≡ 0x00 → ⊥) → step rates d (call k (setList (p ∷ ps))) ≡ step rates d (call k (setParameter (p .0) (p .1)))
     unfolding lent
     set-at-once =
-        by-channel rates d eight k (λ no n. no (setList (p ∷ ps)) ∙ sym (no (setParameter (p .0) (p .1))))
+        by-channel rates d eight k (λ no n. no (setList (p ∷ ps)) refl ∙ sym (no (setParameter (p .0) (p .1)) refl))
         (λ i e a.
         subst (λ (j : ℕ). (step rates d (call j (setParameter (p .0) (p .1))) .1 .code ≡ 0x00 → ⊥) → step rates d (call j (setList (p ∷ ps))) ≡ step rates d (call j (setParameter (p .0) (p .1)))) (sym e)
         (set-stop rates d i a p ps h))
@@ -448,7 +448,7 @@ module _ (rates : List ℕ) (d : Device) (eight : EightChannels d) (k : ℕ) whe
         → step rates d (call k (getList (p ∷ ps))) ≡ (step rates d (call k (getParameter (p .0))) .0, says (step rates d (call k (getParameter (p .0))) .1 .code) 0 (flat (p ∷ ps)))
     unfolding lent says
     get-at-once =
-        by-channel rates d eight k (λ no n. no (getList (p ∷ ps)) ∙ ap (λ (s : Device × Answer). (s .0, says (s .1 .code) 0 (flat (p ∷ ps)))) (sym (no (getParameter (p .0)))))
+        by-channel rates d eight k (λ no n. no (getList (p ∷ ps)) refl ∙ ap (λ (s : Device × Answer). (s .0, says (s .1 .code) 0 (flat (p ∷ ps)))) (sym (no (getParameter (p .0)) refl)))
         (λ i e a.
         subst (λ (j : ℕ). (step rates d (call j (getParameter (p .0))) .1 .code ≡ 0x00 → ⊥) → step rates d (call j (getList (p ∷ ps))) ≡ (step rates d (call j (getParameter (p .0))) .0, says (step rates d (call j (getParameter (p .0))) .1 .code) 0 (flat (p ∷ ps)))) (sym e)
         (get-stop rates d i a p ps h))

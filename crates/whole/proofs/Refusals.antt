@@ -2,7 +2,7 @@
 -- were, but for the last code of the channel that it names. What is said of raw and of ISO 15765 channels is said once, of either. Assumes nothing.
 use Prim.Native.Nat.{ℕ, _+_, _-_, _≤_, _<_}
 use mathlib.Core.Path.{_≡_, refl, sym, ap, ap₂, _∙_, subst, fun-ext}
-use mathlib.Core.Bool.{Bool, true, false}
+use mathlib.Core.Bool.{Bool, true, false, _&&_}
 use mathlib.Core.Option.{Option, none, some}
 use mathlib.Core.List.{List, [], _∷_, _++_, map, map-id}
 use native.Mathlib.Omega.{arith}
@@ -10,7 +10,7 @@ use borrow.Author.Tests.{eqb-true, ltb-true}
 use lib.ListN.{length}
 use lib.Dec.{T, eqb, leb, ltb}
 use Rattle.codec.specs.Plain.{if_then_else_, member, within}
-use Rattle.codec.proofs.Tests.{true-T, within-low}
+use Rattle.codec.proofs.Tests.{left, true-T, within-low}
 use Rattle.machine.specs.Limits.{lastLine}
 use Rattle.machine.specs.Codes.{stepCodes, codeOf}
 use Rattle.machine.specs.Channel.{Chan, Call, Answer, says, lent, onCall, onConnect, onFrame, onAdvance, connectCode, frameCode, noted, notedInUse, notes}
@@ -21,9 +21,9 @@ use Rattle.machine.proofs.Refusals as raw-laws
 use Rattle.iso.specs.Iso.{Iso, shut, ready, isoCodes, onIsoConnect, onIsoCall, onIsoFrame, onIsoAdvance, isoConnectCode, isoNotes, isoNoted, isoNotedInUse}
 use Rattle.iso.specs.Step.{isoStep}
 use Rattle.iso.proofs.Fair.{ready-codes, isoNotedInUse-answer, isoNotedInUse-leaves, iso-connect-fair, iso-call-noted, iso-frame-left, iso-advance-left}
-use Rattle.whole.specs.Device.{channels, Device, Any, raw, iso, chanAt, isoAt, anyAt, connected, speaker, ownAnswer, anyStep, answer, step}
+use Rattle.whole.specs.Device.{channels, Device, Any, raw, iso, chanAt, isoAt, anyAt, nameable, connected, speaker, ownAnswer, anyStep, answer, step}
 use Rattle.whole.specs.Demands.{EightChannels, boxCodes, boxTable, refusal, withAny, anyNotes, notedAt, notedBy, remembers}
-use Rattle.whole.proofs.Dispatch.{same-device, withLine, withLine-same, withLine-beyond, withAny-same, answer-spoken, answer-own, step-spoken, step-frame, step-advance, step-close, step-no-connect, step-no-channel, call-heard}
+use Rattle.whole.proofs.Dispatch.{same-device, withLine, withLine-same, withLine-beyond, withAny-same, answer-spoken, answer-own, step-spoken, step-frame, step-advance, step-close, step-no-connect, step-unnamed, call-heard}
 
 -- ---- codes
 
@@ -175,14 +175,14 @@ module _ (rates : List ℕ) where
       by : (o : Option ℕ) → connected l p ≡ o → Left d (connect l p f r) (step rates d (connect l p f r))
       by none q = subst (Left d (connect l p f r)) (sym (step-no-connect rates d l p f r w q)) (λ t. (unnoted d l p (ownAnswer rates (connect l p f r) .code) q, refl))
       by (some i) q = connect-left d l p f r i w q
-  refused-left d (call k x) w = by (within 1 channels k) refl
+  refused-left d (call k x) w = by (within 1 channels k && nameable x (k - 1)) refl
     where
-      by : (b : Bool) → within 1 channels k ≡ b → Left d (call k x) (step rates d (call k x))
+      by : (b : Bool) → (within 1 channels k && nameable x (k - 1)) ≡ b → Left d (call k x) (step rates d (call k x))
       by true q =
-          let low : 1 ≤ k = within-low 1 channels k (true-T (within 1 channels k) q) in
+          let low : 1 ≤ k = within-low 1 channels k (left (within 1 channels k) (nameable x (k - 1)) (true-T _ q)) in
           let e : k ≡ k - 1 + 1 = omega arith in
           call-left d k (k - 1) x w e (call-heard k x q)
-      by false q = subst (Left d (call k x)) (sym (step-no-channel rates d k x w q)) (λ t. (refl, refl))
+      by false q = subst (Left d (call k x)) (sym (step-unnamed rates d k x w q)) (λ t. (refl, refl))
   refused-left d (frame l w n b) eight =
       subst (Left d (frame l w n b)) (sym (step-frame rates d l w n b eight)) (λ t. (frame-stays d l w n b eight t (ltb lastLine l) refl, refl))
   refused-left d (advance t) w =

@@ -7,10 +7,10 @@ use mathlib.Core.Option.{Option, none, some}
 use mathlib.Core.List.{List, [], _∷_, _++_}
 use lib.ListN.{length, set}
 use lib.Dec.{T, eqb, ltb}
-use Rattle.codec.specs.Plain.{if_then_else_}
+use Rattle.codec.specs.Plain.{if_then_else_, within}
 use Rattle.machine.specs.Limits.{lines}
 use Rattle.machine.specs.Codes.{stepCodes}
-use Rattle.machine.specs.Channel.{Call, getParameter, setParameter, getList, setList, Pairs, flat, Answer, notes, says}
+use Rattle.machine.specs.Channel.{Call, rawOnly, getParameter, setParameter, getList, setList, Pairs, flat, Answer, notes, says}
 use Rattle.machine.specs.Step.{Event, connect, call, frame, advance, close}
 unfoldable pub use Rattle.machine.specs.Demands.{results, pairCodes, didPart, partDone, refusal}
 use Rattle.iso.specs.Iso.{isoNotes}
@@ -98,12 +98,16 @@ remembers close code d = d
 
 -- ---- demand 3: what concerns a channel
 
+-- a call names the channel of its number; one that takes the number of a raw channel names 1 to 4 alone
+unfoldable pub names : Call → ℕ → Bool
+names x k = if rawOnly x then within 1 4 k else true
+
 -- the event concerns the channel at place i: a call that names its number i + 1; a connect of its line and protocol, which are L and 5 for the
 -- channel L + 1 up to 4, and L and 6 for the channel L + 5 from 5 on; a frame of its line; an advance; a close.
--- This is demand 3's own list, as P3 amends it, and looks at nothing of the machine
+-- This is demand 3's own list, as P3 and P5 amend it. Of the machine it takes one word, `rawOnly`: which calls take the number of a raw channel
 unfoldable pub concerns : ℕ → Event → Bool
 concerns i (connect l p f r) = if ltb i 4 then eqb l i && eqb p 5 else eqb (l + 4) i && eqb p 6
-concerns i (call k x) = eqb k (i + 1)
+concerns i (call k x) = eqb k (i + 1) && names x k
 concerns i (frame l w n b) = if ltb i 4 then eqb l i else eqb (l + 4) i
 concerns i (advance t) = true
 concerns i close = true
@@ -147,7 +151,7 @@ pub record Exchanged (rates : List ℕ) (d : Device) (xs : List Event) (e e′ :
 
 -- the channel number that a call or a connect names. A frame names none: it concerns both channels of its line
 pub data Names : Event → ℕ → Type 0 where
-  byCall : {k : ℕ} {x : Call} → Names (call k x) k
+  byCall : {k : ℕ} {x : Call} → T (names x k) → Names (call k x) k
   byRaw : {l f r : ℕ} → l < lines → Names (connect l 5 f r) (l + 1)
   byIso : {l f r : ℕ} → l < lines → Names (connect l 6 f r) (l + 5)
 

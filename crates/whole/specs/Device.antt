@@ -1,13 +1,13 @@
 -- The whole box: a clock, four raw CAN channels and four ISO 15765 channels, and the one place where an event finds its channels. Assumes nothing.
 use Prim.Native.Nat.{ℕ, zero, suc, _+_, _-_}
-use mathlib.Core.Bool.{Bool, true, false, _&&_}
+use mathlib.Core.Bool.{Bool, true, false, not, _&&_, _||_}
 use mathlib.Core.Option.{Option, none, some}
 use mathlib.Core.List.{List, [], _∷_}
 use lib.ListN.{getD, replicate}
 use lib.Dec.{eqb, ltb}
 use Rattle.codec.specs.Plain.{if_then_else_, within}
 use Rattle.machine.specs.Limits.{lines, canProtocol}
-use Rattle.machine.specs.Channel.{Chan, closed, Call, Answer, says, connectCode}
+use Rattle.machine.specs.Channel.{Chan, closed, Call, rawOnly, Answer, says, connectCode}
 use Rattle.machine.specs.Step as raw-step
 use Rattle.machine.specs.Step.{Event, connect, call, frame, advance, close, chanStep, clockAfter}
 use Rattle.iso.specs.Limits.{isoProtocol}
@@ -49,9 +49,13 @@ unfoldable pub protocolAt : ℕ → ℕ
 protocolAt i = if ltb i lines then canProtocol else isoProtocol
 
 -- ---- THE DISPATCHER. Which channels an event touches, by their places, and whose answer it gets
+-- the places that a call can name: one that takes the number of a raw channel stops at the fourth
+unfoldable pub nameable : Call → ℕ → Bool
+nameable x i = not (rawOnly x) || ltb i lines
+
 unfoldable pub touches : Event → ℕ → Bool
 touches (connect l p f r) i = eqb l (lineOf i) && eqb p (protocolAt i)
-touches (call k x) i = eqb k (i + 1)
+touches (call k x) i = eqb k (i + 1) && nameable x i
 touches (frame l w n b) i = eqb l (lineOf i)
 touches (advance t) i = true
 touches close i = true
@@ -60,13 +64,14 @@ touches close i = true
 unfoldable pub connected : ℕ → ℕ → Option ℕ
 connected l p = if ltb l lines then (if eqb p canProtocol then some l else if eqb p isoProtocol then some (l + lines) else none) else none
 
-unfoldable pub numbered : ℕ → Option ℕ
-numbered k = if within 1 channels k then some (k - 1) else none
+-- the place of the channel that a call names by this number
+unfoldable pub numbered : Call → ℕ → Option ℕ
+numbered x k = if within 1 channels k && nameable x (k - 1) then some (k - 1) else none
 
 -- the place of the channel that answers; none where the answer is no channel's
 unfoldable pub speaker : Event → Option ℕ
 speaker (connect l p f r) = connected l p
-speaker (call k x) = numbered k
+speaker (call k x) = numbered x k
 speaker (frame l w n b) = none
 speaker (advance t) = none
 speaker close = none
