@@ -14,7 +14,7 @@ use Rattle.codec.specs.Code.{slot, via, getSlot}
 use Rattle.machine.specs.Limits.{lines}
 use Rattle.machine.specs.Codes.{codeOf}
 use Rattle.machine.specs.Message.{idBytes}
-use Rattle.machine.specs.Channel.{Chan, closed, opened, Answer, says, frameCode, offered, onFrame}
+use Rattle.machine.specs.Channel.{Chan, closed, opened, Answer, says, frameCode, heardBy, offered, onFrame}
 use Rattle.machine.specs.Step as raw-step
 use Rattle.machine.specs.Step.{frame, chanStep}
 use Rattle.layout.specs.Sizes.{regionSize}
@@ -61,7 +61,7 @@ module _ (r : List ℕ) (long : length r ≡ regionSize) (v : T (region .valid r
         let e : region .get r ≡ closed = ap (λ (k : ℕ). chanBack (getSlot openPart k (drop 1 r))) z in
         sym again ∙ ap (region .put) e ∙ sym (ap (λ (c : Chan). region .put (onFrame now c w n b)) e)
 
-    pub offer-open : frameCode w n b ≡ 0 → Opened r → (ys : List ℕ) → ys ≡ region .put (offered now (openOf r) (eqb w 1) (idBytes n ++ b)) → ys ≡ region .put (onFrame now (region .get r) w n b)
+    pub offer-open : frameCode w n b ≡ 0 → Opened r → (ys : List ℕ) → ys ≡ region .put (offered now (heardBy (openOf r) (eqb w 1) n b) (eqb w 1) (idBytes n ++ b)) → ys ≡ region .put (onFrame now (region .get r) w n b)
     unfolding onFrame
     offer-open z o ys e = e ∙ ap (region .put) (sym (ap (λ (c : Chan). onFrame now c w n b) (is-open r o) ∙ rw (eq-eqb (frameCode w n b) 0 z)))
 

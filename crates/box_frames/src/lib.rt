@@ -23,7 +23,7 @@ fn offer(r: &mut [u8], clock: u32, wide: u32, id: u32, bytes: &[u8])
     if r[0] == 0 {
         return;
     }
-    frames::offer(r, clock, wide == 1, id, bytes);
+    frames::meet(r, clock, wide == 1, id, bytes);
 }
 
 // A frame from a line: refused by its own tests, else offered to the line's raw channel and to its ISO 15765 channel.

@@ -2,16 +2,17 @@
 -- only looks at an ISO 15765 channel can be noted. Assumes nothing.
 use mathlib.Core.Path.{_≡_, refl, sym, ap, _∙_}
 use Prim.Native.Nat.{ℕ, _+_, _-_, _≤_, _<_}
+use mathlib.Core.Bool.{not, _&&_, _||_}
 use mathlib.Core.Option.{Option, none, some}
 use mathlib.Core.List.{List, []}
 use native.Mathlib.Omega.{arith}
 use lib.ListN.{length, take, drop-of-length-le}
 use lib.Seq.{take-nil}
-use lib.Dec.{T}
+use lib.Dec.{T, eqb, ltb}
 use borrow.Rule.Slice.PartMut.{midOf}
-use Rattle.codec.specs.Plain.{if_then_else_}
+use Rattle.codec.specs.Plain.{if_then_else_, within}
 use Rattle.machine.specs.Limits.{lines}
-use Rattle.machine.specs.Channel.{Chan, closed, opened, Call, Answer, says, lent, startFilter, startFlow, onOpen, onCall, noted}
+use Rattle.machine.specs.Channel.{Chan, closed, opened, Call, rawOnly, Answer, says, lent, startFilter, startFlow, onOpen, onCall, noted}
 use Rattle.machine.specs.Step as raw-step
 use Rattle.machine.specs.Step.{call, chanStep, clockAfter}
 use Rattle.layout.specs.Memory.{region}
@@ -20,7 +21,7 @@ use Rattle.iso.specs.Iso.{Iso, shut, ready, onReady, onIsoCall, isoNoted}
 use Rattle.iso.specs.Step.{isoStep}
 use Rattle.iso_layout.specs.Sizes.{isoRegionSize}
 use Rattle.iso_layout.specs.Promise.{isoOutcome}
-use Rattle.whole.specs.Device.{Device, Any, raw, iso, anyAt, touches, speaker, numbered, ownAnswer, anyStep, moved, after, answerBy, answer, step}
+use Rattle.whole.specs.Device.{Device, Any, raw, iso, channels, anyAt, nameable, touches, speaker, numbered, ownAnswer, anyStep, moved, after, answerBy, answer, step}
 use Rattle.memory.specs.Memory.{valid, load, image}
 use Rattle.memory.specs.Promise.{outcome, IsoSeat}
 use Rattle.memory.proofs.Seats.{iso-ends, iso-lent, iso-noted}
@@ -43,10 +44,10 @@ unfolding onIsoCall onReady lent
 iso-same rates t shut type mask pattern = refl
 iso-same rates t (ready o) type mask pattern = refl
 
--- ---- two calls that are the same on every channel are the same to the box
+-- ---- two calls that are the same on every channel, and can name the same ones, are the same to the box
 
 module _ (x y : Call) (raws : (rates : List ℕ) (t : ℕ) (c : Chan) → onCall rates t c x ≡ onCall rates t c y) (isos : (rates : List ℕ) (t : ℕ) (c : Iso) → onIsoCall rates t c x ≡ onIsoCall rates t c y)
-    (lends : lent x ≡ lent y) (rates : List ℕ) (d : Device) (k : ℕ) where
+    (lends : lent x ≡ lent y) (name : rawOnly x ≡ rawOnly y) (rates : List ℕ) (d : Device) (k : ℕ) where
   any-same : (t : ℕ) (c : Any) → anyStep rates t c (call k x) .1 ≡ anyStep rates t c (call k y) .1
   unfolding anyStep chanStep isoStep noted isoNoted
   any-same t (raw c) = ap (λ (o : Chan × Answer). o .1) (raws rates t c)
@@ -57,16 +58,20 @@ module _ (x y : Call) (raws : (rates : List ℕ) (t : ℕ) (c : Chan) → onCall
   answer-same none = ap (λ (b : List ℕ). says 0x02 0 b) lends
   answer-same (some i) = any-same (d .clock) (anyAt i d)
 
+  speaker-same : speaker (call k x) ≡ speaker (call k y)
+  unfolding speaker numbered nameable
+  speaker-same = λ i. if within 1 channels k && (not (name i) || ltb (k - 1) lines) then some (k - 1) else none
+
   step-same : step rates d (call k x) ≡ step rates d (call k y)
-  unfolding step after answer clockAfter touches speaker chanStep isoStep
+  unfolding step after answer clockAfter touches nameable chanStep isoStep
   step-same =
       λ i. (
         record {
           clock = d .clock;
-          chans = moved (touches (call k x)) (λ c. noted (raws rates (d .clock) c i) .0) 0 (d .chans);
-          isos = moved (touches (call k x)) (λ c. isoNoted (isos rates (d .clock) c i) .0) lines (d .isos);
+          chans = moved (λ j. eqb k (j + 1) && (not (name i) || ltb j lines)) (λ c. noted (raws rates (d .clock) c i) .0) 0 (d .chans);
+          isos = moved (λ j. eqb k (j + 1) && (not (name i) || ltb j lines)) (λ c. isoNoted (isos rates (d .clock) c i) .0) lines (d .isos);
         },
-        answer-same (numbered k) i,
+        (ap (λ (s : Option ℕ). answerBy s rates d (call k x)) speaker-same ∙ answer-same (speaker (call k y))) i,
       )
 
 pub no-third-record : (rates m : List ℕ) (k type : ℕ) (mask pattern flow : List ℕ) → flow ≡ [] → outcome rates m (call k (startFlow type mask pattern flow)) ≡ outcome rates m (call k (startFilter type mask pattern))
@@ -74,7 +79,7 @@ unfolding outcome raw-step.lentBy lent
 no-third-record rates m k type mask pattern flow e =
     ap (λ (b : List ℕ). outcome rates m (call k (startFlow type mask pattern b))) e
     ∙ (λ i.
-    let s : Device × Answer = step-same (startFlow type mask pattern []) (startFilter type mask pattern) (λ rates t c. sym (raw-same rates t c type mask pattern [])) (λ rates t c. sym (iso-same rates t c type mask pattern)) refl rates (load m) k i in
+    let s : Device × Answer = step-same (startFlow type mask pattern []) (startFilter type mask pattern) (λ rates t c. sym (raw-same rates t c type mask pattern [])) (λ rates t c. sym (iso-same rates t c type mask pattern)) refl refl rates (load m) k i in
     if valid m then answered (s .1) (image (s .0)) else gives 0x1A 0 [] m)
 
 -- what is lent behind the end of some bytes

@@ -1,21 +1,21 @@
--- What goes in flight next: where its bytes lie in the two stores; and the written store without its oldest record. Assumes nothing.
+-- What goes in flight next: where its bytes lie in the three stores; and the written store without its oldest record. Assumes nothing.
 use mathlib.Core.Path.{_≡_, refl, sym, ap, _∙_}
 use Prim.Native.Nat.{ℕ, zero, suc, _+_, _*_, _-_, _≤_, _<_}
 use native.Mathlib.Nat.{not-suc-le-zero}
 use native.Mathlib.Omega.{arith}
-use mathlib.Core.Option.{Option}
+use mathlib.Core.Bool.{Bool, true, false}
 use mathlib.Core.List.{List, [], _∷_, _++_, append-nil}
 use lib.ListN.{length, getD, set, take, drop, length-drop}
-use lib.Seq.{length-take-le}
+use lib.Seq.{take-all, length-take-le}
 use lib.Dec.{T}
 use borrow.Rule.Slice.PartMut.{putMid}
-use Rattle.codec.specs.Plain.{zeros}
+use Rattle.codec.specs.Plain.{if_then_else_, zeros}
 use Rattle.codec.specs.Code.{such, getAll, putAll, upTo}
 use Rattle.codec.proofs.Lists.{part-long}
 use Rattle.codec.proofs.Store.{oldest-out, oldest-gone}
 use Rattle.machine.specs.Message.{Rec}
 use Rattle.machine.specs.Filter.{Slots}
-use Rattle.machine.specs.Channel.{Periodic, Next, next}
+use Rattle.machine.specs.Channel.{Periodic, next}
 use Rattle.machine.specs.Limits.{mostPlaces, mostWritten, recordSize}
 use Rattle.layout.specs.Sizes.{writtenSize, messagesIn}
 use Rattle.layout.specs.Record.{rec36, outCell}
@@ -27,7 +27,8 @@ use Rattle.stores.proofs.Periodics.{any-get, ten-held, message-at}
 use Rattle.stores.proofs.Written.{holds-ok, holds-is, holds-count}
 use Rattle.pending.proofs.Next.{waiting, next-pending, next-oldest}
 use Rattle.pending.proofs.Next.{oldest as oldestOf}
-use Rattle.choosing.specs.Choice.{nextShown, Choosing}
+use Rattle.pending.proofs.Any.{anyPending, any-pending, none-pending}
+use Rattle.choosing.specs.Choice.{nextShown, choiceShown, Choosing}
 
 -- some are written: the oldest and the others
 pub record Several (ws : List Rec) : Type 0 where
@@ -51,7 +52,25 @@ any-written j k m = any-records j k (getD m 0 0) (drop 1 m)
 
 -- ---- the bytes of the choice
 
-module _ {p w : List ℕ} {i : ℕ} (q : Choosing p w i) where
+-- of which of the three they are
+module _ (ps : Slots Periodic) (t : List ℕ) (ws : List Rec) where
+  pub of-telegram : {there : Bool} → anyPending ps ≡ false → there ≡ true → choiceShown ps there t ws ≡ t
+  unfolding choiceShown
+  of-telegram h e = rw h (rw e refl)
+
+  of-periodics : (there : Bool) → anyPending ps ≡ true → choiceShown ps there t ws ≡ nextShown (next ps ws)
+  unfolding choiceShown
+  of-periodics there h = rw h refl
+
+  pub of-others : {there : Bool} → there ≡ false → choiceShown ps there t ws ≡ nextShown (next ps ws)
+  unfolding choiceShown
+  of-others e = rw e (by (anyPending ps))
+    where
+      by : (b : Bool) → (if b then nextShown (next ps ws) else nextShown (next ps ws)) ≡ nextShown (next ps ws)
+      by true = refl
+      by false = refl
+
+module _ {p t w : List ℕ} {i : ℕ} {there : Bool} (q : Choosing p t w i there) where
   abbrev flags : ℕ
   flags = q .part .flags
 
@@ -61,28 +80,37 @@ module _ {p w : List ℕ} {i : ℕ} (q : Choosing p w i) where
   abbrev ws : List Rec
   ws = written flags .get w
 
-  shown-any : (x : Option Next) → next ps ws ≡ x → (k : ℕ) → nextShown x ≡ nextShown (next (periodics k .get p) (written k .get w))
-  shown-any x e k = ap nextShown (sym e) ∙ (λ j. nextShown (next (any-get flags k p j) (any-written flags k w j)))
+  -- whatever the flags
+  chosen-any : {x : List ℕ} → x ≡ choiceShown ps there t ws → (k : ℕ) → x ≡ choiceShown (periodics k .get p) there t (written k .get w)
+  chosen-any e k = e ∙ (λ j. choiceShown (any-get flags k p j) there t (any-written flags k w j))
 
-  pub pending-shown : i < mostPlaces → (k : ℕ) → take (messagesIn + i * recordSize + recordSize - (messagesIn + i * recordSize)) (drop (messagesIn + i * recordSize) p) ≡ nextShown (next (periodics k .get p) (written k .get w))
+  pub pending-shown : i < mostPlaces → (k : ℕ) → take (messagesIn + i * recordSize + recordSize - (messagesIn + i * recordSize)) (drop (messagesIn + i * recordSize) p) ≡ choiceShown (periodics k .get p) there t (written k .get w)
   unfolding nextShown
-  pending-shown h k =
+  pending-shown h =
       let x = waiting ps (ten-held p (q .part)) i (q .first) h in
       let size : messagesIn + i * recordSize + recordSize - (messagesIn + i * recordSize) ≡ recordSize = omega arith in
-      ap (λ (n : ℕ). take n (drop (messagesIn + i * recordSize) p)) size ∙ message-at p (q .part) i h (x .one) (x .there) ∙ sym (shown-is (x .one .message))
-      ∙ shown-any _ (next-pending ps (ten-held p (q .part)) i (q .first) ws (x .one) (x .there)) k
+      chosen-any
+      (ap (λ (n : ℕ). take n (drop (messagesIn + i * recordSize) p)) size ∙ message-at p (q .part) i h (x .one) (x .there) ∙ sym (shown-is (x .one .message))
+      ∙ sym (ap nextShown (next-pending ps (ten-held p (q .part)) i (q .first) ws (x .one) (x .there))) ∙ sym (of-periodics ps t ws there (any-pending ps (ten-held p (q .part)) (q .first) h)))
 
   pub pending-long : i < mostPlaces → length (take (messagesIn + i * recordSize + recordSize - (messagesIn + i * recordSize)) (drop (messagesIn + i * recordSize) p)) ≡ recordSize
   pending-long h = part-long (messagesIn + i * recordSize) recordSize p (omega (arith, q .part .long))
 
-  pub oldest-shown : mostPlaces ≤ i → (k : ℕ) → take recordSize (drop 1 w) ≡ nextShown (next (periodics k .get p) (written k .get w))
+  pub telegram-shown : mostPlaces ≤ i → there ≡ true → (k : ℕ) → take recordSize t ≡ choiceShown (periodics k .get p) there t (written k .get w)
+  telegram-shown h e = chosen-any (take-all recordSize t (omega (arith, q .one)) ∙ sym (of-telegram ps t ws (none-pending ps (ten-held p (q .part)) (q .first) h) e))
+
+  pub telegram-long : length (take recordSize t) ≡ recordSize
+  telegram-long = length-take-le recordSize t (omega (arith, q .one))
+
+  pub oldest-shown : mostPlaces ≤ i → there ≡ false → (k : ℕ) → take recordSize (drop 1 w) ≡ choiceShown (periodics k .get p) there t (written k .get w)
   unfolding nextShown outCell such
-  oldest-shown h k =
-      let s = several ws (omega (arith, q .something h, holds-count (q .store))) in
-      oldest-out (out-lawful flags) mostWritten recordSize (out-size flags) ws (holds-is (q .store)) (holds-ok (q .store)) 1 (omega (arith, q .something h, holds-count (q .store)))
+  oldest-shown h e =
+      let s = several ws (omega (arith, q .something h e, holds-count (q .store))) in
+      chosen-any
+      (oldest-out (out-lawful flags) mostWritten recordSize (out-size flags) ws (holds-is (q .store)) (holds-ok (q .store)) 1 (omega (arith, q .something h e, holds-count (q .store)))
       ∙ ap (λ (x : List Rec). putAll (outCell flags) (take 1 x)) (s .are) ∙ append-nil (rec36 .put (s .oldest))
       ∙ sym (shown-is (s .oldest))
-      ∙ shown-any _ (next-oldest ps (ten-held p (q .part)) i (q .first) ws h ∙ ap (oldestOf ps) (s .are)) k
+      ∙ sym (ap nextShown (next-oldest ps (ten-held p (q .part)) i (q .first) ws h ∙ ap (oldestOf ps) (s .are))) ∙ sym (of-others ps t ws e))
 
   pub oldest-long : length (take recordSize (drop 1 w)) ≡ recordSize
   oldest-long = length-take-le recordSize (drop 1 w) (omega (arith, length-drop 1 w, q .store .long))

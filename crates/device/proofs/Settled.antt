@@ -1,4 +1,4 @@
--- ANY TWO OUTCOMES OF A PUBLIC CALL ARE EQUAL: said of each of the 21 calls, of connect and set with rates that are lent, and of the look at the
+-- ANY TWO OUTCOMES OF A PUBLIC CALL ARE EQUAL: said of each of the 25 calls, of connect and set with rates that are lent, and of the look at the
 -- memory, over the very postcondition that the function is proved to meet.
 -- An outcome is what the function returns and what it leaves in the memory and in a lent buffer. Assumes nothing.
 use mathlib.Core.Path.{sym, ap, _∙_}
@@ -48,6 +48,14 @@ use Rattle.device_traffic.proofs.take.Kinds as take-kinds
 use Rattle.device_traffic.proofs.take.Reads as take
 use Rattle.device_traffic.proofs.sent.Kinds as sent-kinds
 use Rattle.device_traffic.proofs.sent.Reads as sent
+use Rattle.device_links.proofs.link_open.Kinds as link-open-kinds
+use Rattle.device_links.proofs.link_open.Reads as link-open
+use Rattle.device_links.proofs.link_send.Kinds as link-send-kinds
+use Rattle.device_links.proofs.link_send.Reads as link-send
+use Rattle.device_links.proofs.link_receive.Kinds as link-receive-kinds
+use Rattle.device_links.proofs.link_receive.Reads as link-receive
+use Rattle.device_links.proofs.link_end.Kinds as link-end-kinds
+use Rattle.device_links.proofs.link_end.Reads as link-end
 use Rattle.device_lines.proofs.power_on.Kinds as power-on-kinds
 use Rattle.device_lines.proofs.power_on.Reads as power-on
 use Rattle.device_lines.proofs.close.Kinds as close-kinds
@@ -119,6 +127,18 @@ take-settled κs a x y p q = ap (λ (s : Result). (s .code, (s .memory, (tt, (s 
 
 pub sent-settled : OneOutcome 1 sent-kinds.ps sent-kinds.r sent.Post
 sent-settled κs a x y p q = ap (λ (s : Result). (s .code, (s .memory, x .1 .1))) (p ∙ sym q)
+
+pub link-open-settled : OneOutcome 1 link-open-kinds.ps link-open-kinds.r link-open.Post
+link-open-settled κs a x y p q = ap (λ (s : Result). (s .code, (s .memory, x .1 .1))) (p ∙ sym q)
+
+pub link-send-settled : OneOutcome 2 link-send-kinds.ps link-send-kinds.r link-send.Post
+link-send-settled κs a x y p q = ap (λ (s : Result). (s .code, (s .memory, x .1 .1))) (p ∙ sym q)
+
+pub link-receive-settled : OneOutcome 2 link-receive-kinds.ps link-receive-kinds.r link-receive.Post
+link-receive-settled κs a x y p q = ap (λ (s : Result). (record { code = s .code; value = s .value }, (s .memory, (tt, (s .buffer, tt))))) (p ∙ sym q)
+
+pub link-end-settled : OneOutcome 1 link-end-kinds.ps link-end-kinds.r link-end.Post
+link-end-settled κs a x y p q = ap (λ (s : Result). (s .code, (s .memory, x .1 .1))) (p ∙ sym q)
 
 pub power-on-settled : OneOutcome 1 power-on-kinds.ps power-on-kinds.r power-on.Post
 power-on-settled κs a x y p q = ap (λ (s : Result). (s .code, (s .memory, x .1 .1))) (p ∙ sym q)

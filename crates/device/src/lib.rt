@@ -1,4 +1,4 @@
-// The 21 public calls of the box, on any bytes that are lent as its memory: each looks at the memory first, then does the call. The look itself
+// The 25 public calls of the box, on any bytes that are lent as its memory: each looks at the memory first, then does the call. The look itself
 // is `valid`.
 pub use box_places::BOX as MEMORY;
 pub use box_validity::valid;
@@ -12,6 +12,10 @@ pub use device_lines::advance;
 pub use device_lines::close;
 pub use device_lines::frame;
 pub use device_lines::power_on;
+pub use device_links::link_end;
+pub use device_links::link_open;
+pub use device_links::link_receive;
+pub use device_links::link_send;
 pub use device_lists::Pair;
 pub use device_lists::get_list;
 pub use device_lists::set_list;

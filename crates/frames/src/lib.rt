@@ -1,11 +1,11 @@
-// A bus frame: its own tests, and how it is offered to an open channel.
+// A bus frame: its own tests, and how it meets an open channel: the connection of its line, and the filters.
 ghost use mathlib.Core.Path.{_≡_};
 ghost use mathlib.Core.List.{_++_};
 ghost use Prim.Native.Nat.{_≤_};
 ghost use lib.ListN.{length, drop};
 ghost use Rattle.machine.specs.Limits.{mostBytes};
 ghost use Rattle.machine.specs.Message.{idBytes};
-ghost use Rattle.machine.specs.Channel.{frameCode, offered};
+ghost use Rattle.machine.specs.Channel.{frameCode, heardBy, offered};
 ghost use Rattle.layout.specs.Memory.{openPart, region};
 ghost use Rattle.layout.specs.Promise.{Opened};
 use places::FILTERS;
@@ -48,4 +48,17 @@ pub fn offer(r: &mut [u8], clock: u32, wide: bool, id: u32, bytes: &[u8])
         return;
     }
     receiving::receive(r, clock, wide, id, bytes);
+}
+
+// A good frame meets an open channel: a narrow one its connection, and each the filters.
+pub fn meet(r: &mut [u8], clock: u32, wide: bool, id: u32, bytes: &[u8])
+    requires { ⌜ Opened (now r) × (length (now bytes) ≤ mostBytes) ⌝ }
+    ensures { λ u. ⌜ now (r .exit) ≡ region .put (offered clock (heardBy (openPart .get (drop 1 (now (r .entry)))) wide id (now (bytes .entry))) wide (idBytes id ++ now (bytes .entry))) ⌝ }
+{
+    if wide {
+        offer(r, clock, wide, id, bytes);
+        return;
+    }
+    link_hearing::hears(&mut r[places::LINK..places::REGION], id, bytes);
+    offer(r, clock, wide, id, bytes);
 }

@@ -13,16 +13,22 @@ use Rattle.codec.specs.Code.{such, markOf}
 use Rattle.codec.proofs.Lawful.{such-under}
 use Rattle.codec.proofs.Many.{one-none}
 use Rattle.machine.specs.Message.{Rec, received}
-use Rattle.machine.specs.Channel.{opened, Open, withSending, sent, landed, sending, onSent, onOpen, doneWith, arrive}
+use Rattle.machine.specs.Channel.{opened, Open, withSending, withLink, sent, landed, sending, onSent, onOpen, doneWith, arrive}
 use Rattle.machine.specs.Limits.{recordSize}
-use Rattle.layout.specs.Sizes.{flightAt, loopbackAt, flightSize}
+use Rattle.layout.specs.Sizes.{flightAt, loopbackAt, linkAt, flightSize}
 use Rattle.layout.specs.Record.{rec36, outgoing, outCell}
 use Rattle.layout.specs.Memory.{region}
 use Rattle.layout.specs.Promise.{Opened, gives, callOutcome}
 use Rattle.layout.proofs.Memory.{rec-lawful, out-lawful, region-lawful}
 use Rattle.layout.proofs.Sizes.{out-size}
-use Rattle.layout.proofs.Good.{Fine, fl, put-sending}
-use Rattle.layout.proofs.Region.{openOf, moves, stays, mark-of, loopback-part, flight-part, opened-again}
+use Rattle.layout.proofs.Good.{Fine, fl, Good, ok-good, good-ok, put-sending, put-link}
+use Rattle.layout.proofs.Region.{openOf, moves, stays, mark-of, loopback-part, flight-part, opened-again, open-again}
+use Rattle.layout.proofs.Link.{link-there, link-turned, link-moved}
+use Rattle.link.specs.Connection.{wasSent}
+use Rattle.link_layout.specs.Sizes.{linkSize}
+use Rattle.link_layout.specs.Connection.{connectionPart}
+use Rattle.link_layout.specs.Turned.{LinkPart}
+use Rattle.link_layout.proofs.Moves.{sent-held}
 use Rattle.queue.specs.Queue.{arrived}
 use Rattle.receiving.specs.Outgoing.{Outgoing}
 use Rattle.stores.proofs.Flight.{none-put, good, none-flies, flies}
@@ -44,16 +50,49 @@ module _ {r : List ℕ} (f : Opened r) where
   unfolding onOpen onSent sending
   sent-nothing rates t z = stays r f rates t sent 0x07 0 [] (ap (sending t o) (none-flies f z))
 
-  -- with the flight store empty
-  module _ {ys : List ℕ} (e : ys ≡ zeros (length (take flightSize (drop flightAt r)))) (n : getD r flightAt 0 ≡ 0 → ⊥) where
-    landed-is : putMid flightAt flightSize r ys ≡ region .put (opened (landed o))
-    unfolding withSending landed
-    landed-is = flight-part r f .becomes _ none (e ∙ ap (λ (k : ℕ). zeros k) (flight-part r f .long) ∙ sym (none-put (fl o)))
+  -- the channel with its flight empty, before the connection learns of it
+  abbrev emptied : Open
+  emptied =
+      record {
+        config = o .config;
+        filters = o .filters;
+        sending = record { periodics = o .sending .periodics; written = o .sending .written; flight = none };
+        receiving = o .receiving;
+        last = o .last;
+        link = o .link;
+      }
 
-    landed-fine : Fine (opened (landed o))
-    unfolding withSending landed
-    landed-fine = put-sending o (good f) (o .sending .periodics) (o .sending .written) none (good f .periodics-ok) (good f .written-ok) (one-none (outCell (fl o)))
+  emptied-fine : Fine (opened emptied)
+  unfolding withSending
+  emptied-fine = put-sending o (good f) (o .sending .periodics) (o .sending .written) none (good f .periodics-ok) (good f .written-ok) (one-none (outCell (fl o)))
 
+  landed-fine : Fine (opened (landed o))
+  unfolding landed withLink
+  landed-fine =
+      good-ok (landed o) (put-link emptied (ok-good emptied emptied-fine) (wasSent (o .link)) (link-moved (fl o) wasSent (unfold wasSent in refl) sent-held (o .link) (good f .link-ok)))
+
+  module _ {ys : List ℕ} (e : ys ≡ zeros (length (take flightSize (drop flightAt r)))) where
+    emptied-is : putMid flightAt flightSize r ys ≡ region .put (opened emptied)
+    unfolding withSending
+    emptied-is = flight-part r f .becomes _ none (e ∙ ap (λ (k : ℕ). zeros k) (flight-part r f .long) ∙ sym (none-put (fl o)))
+
+    pub emptied-open : Opened (putMid flightAt flightSize r ys)
+    emptied-open = subst Opened (sym emptied-is) (opened-again emptied emptied-fine)
+
+    pub link-lent : LinkPart (take linkSize (drop linkAt (putMid flightAt flightSize r ys)))
+    link-lent = link-there (putMid flightAt flightSize r ys) emptied-open
+
+    -- and the connection told
+    pub lands : {zs : List ℕ} → zs ≡ connectionPart .put (wasSent (connectionPart .get (take linkSize (drop linkAt (putMid flightAt flightSize r ys)))))
+        → putMid linkAt linkSize (putMid flightAt flightSize r ys) zs ≡ region .put (opened (landed o))
+    unfolding landed withLink
+    lands {zs} q =
+        let m : List ℕ = putMid flightAt flightSize r ys in
+        link-turned m emptied-open wasSent (unfold wasSent in refl) sent-held q
+        ∙ ap (λ (x : Open). region .put (opened (withLink x (wasSent (x .link))))) (ap openOf emptied-is ∙ open-again emptied emptied-fine)
+
+  -- what has landed
+  module _ {after : List ℕ} (landed-is : after ≡ region .put (opened (landed o))) (n : getD r flightAt 0 ≡ 0 → ⊥) where
     abbrev x : Rec
     x = flies f n .one
 
@@ -61,12 +100,12 @@ module _ {r : List ℕ} (f : Opened r) where
     unfolding onOpen onSent sending
     sends rates t b h = ap (sending t o) (flies f n .is) ∙ ap (λ (l : Bool). doneWith (if l then arrive (landed o) (received t (x .tx + 1) (x .bytes)) else opened (landed o)) 0) h
 
-    pub sent-quietly : (rates : List ℕ) (t : ℕ) → getD r loopbackAt 0 ≡ 0 → gives 0 0 [] (putMid flightAt flightSize r ys) ≡ callOutcome rates t r sent
+    pub sent-quietly : (rates : List ℕ) (t : ℕ) → getD r loopbackAt 0 ≡ 0 → gives 0 0 [] after ≡ callOutcome rates t r sent
     unfolding doneWith
     sent-quietly rates t z = moves r f rates t sent (opened (landed o)) 0 0 [] _ (sends rates t false (mark-off (o .config .loopback) (sym (mark-of (loopback-part r f)) ∙ z))) landed-is
 
     -- and the record comes back
-    pub landed-open : Opened (putMid flightAt flightSize r ys)
+    pub landed-open : Opened after
     landed-open = subst Opened (sym landed-is) (opened-again (landed o) landed-fine)
 
     module _ {m : List ℕ} (c : m ≡ take recordSize (drop (flightAt + 1) r)) where
@@ -83,10 +122,10 @@ module _ {r : List ℕ} (f : Opened r) where
       unfolding outCell
       got = ap (rec36 .get) shows ∙ rec-lawful .get-put x (such-under rec36 (outgoing (fl o)) x (flies f n .held))
 
-      pub sent-back : (rates : List ℕ) (t : ℕ) {after : List ℕ} → (getD r loopbackAt 0 ≡ 0 → ⊥)
-          → after ≡ region .put (arrived (received t (rec36 .get m .tx + 1) (rec36 .get m .bytes)) (region .get (putMid flightAt flightSize r ys))) → gives 0 0 [] after ≡ callOutcome rates t r sent
+      pub sent-back : (rates : List ℕ) (t : ℕ) {last : List ℕ} → (getD r loopbackAt 0 ≡ 0 → ⊥)
+          → last ≡ region .put (arrived (received t (rec36 .get m .tx + 1) (rec36 .get m .bytes)) (region .get after)) → gives 0 0 [] last ≡ callOutcome rates t r sent
       unfolding doneWith arrived
-      sent-back rates t {after} z a =
-          let mid : region .get (putMid flightAt flightSize r ys) ≡ opened (landed o) = ap (region .get) landed-is ∙ region-lawful .get-put (opened (landed o)) landed-fine in
-          moves r f rates t sent _ 0 0 [] after (sends rates t true (mark-on (o .config .loopback) (λ h. z (mark-of (loopback-part r f) ∙ h))))
+      sent-back rates t {last} z a =
+          let mid : region .get after ≡ opened (landed o) = ap (region .get) landed-is ∙ region-lawful .get-put (opened (landed o)) landed-fine in
+          moves r f rates t sent _ 0 0 [] last (sends rates t true (mark-on (o .config .loopback) (λ h. z (mark-of (loopback-part r f) ∙ h))))
           (a ∙ (λ j. region .put (arrived (received t (got j .tx + 1) (got j .bytes)) (mid j))))

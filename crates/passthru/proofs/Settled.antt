@@ -45,10 +45,18 @@ use Rattle.passthru.proofs.trawl_write.Kinds as trawl-write-kinds
 use Rattle.passthru.proofs.trawl_write.Reads as trawl-write
 use Rattle.passthru.proofs.trawl_read.Kinds as trawl-read-kinds
 use Rattle.passthru.proofs.trawl_read.Reads as trawl-read
+use Rattle.passthru.proofs.trawl_link_receive.Kinds as trawl-link-receive-kinds
+use Rattle.passthru.proofs.trawl_link_receive.Reads as trawl-link-receive
 use Rattle.passthru.proofs.trawl_take.Kinds as trawl-take-kinds
 use Rattle.passthru.proofs.trawl_take.Reads as trawl-take
 use Rattle.passthru.proofs.trawl_sent.Kinds as trawl-sent-kinds
 use Rattle.passthru.proofs.trawl_sent.Reads as trawl-sent
+use Rattle.passthru.proofs.trawl_link_open.Kinds as trawl-link-open-kinds
+use Rattle.passthru.proofs.trawl_link_open.Reads as trawl-link-open
+use Rattle.passthru.proofs.trawl_link_send.Kinds as trawl-link-send-kinds
+use Rattle.passthru.proofs.trawl_link_send.Reads as trawl-link-send
+use Rattle.passthru.proofs.trawl_link_end.Kinds as trawl-link-end-kinds
+use Rattle.passthru.proofs.trawl_link_end.Reads as trawl-link-end
 use Rattle.passthru.proofs.trawl_clear.Kinds as trawl-clear-kinds
 use Rattle.passthru.proofs.trawl_clear.Reads as trawl-clear
 use Rattle.passthru.proofs.trawl_get.Kinds as trawl-get-kinds
@@ -117,6 +125,18 @@ trawl-take-settled κs a x y p q = alike (p ∙ sym q) (λ s. (s .code, (s .memo
 
 pub trawl-sent-settled : OneOutcome 1 trawl-sent-kinds.ps trawl-sent-kinds.r trawl-sent.Post
 trawl-sent-settled κs a x y p q = alike (p ∙ sym q) (λ s. (s .code, (s .memory, x .1 .1)))
+
+pub trawl-link-open-settled : OneOutcome 1 trawl-link-open-kinds.ps trawl-link-open-kinds.r trawl-link-open.Post
+trawl-link-open-settled κs a x y p q = alike (p ∙ sym q) (λ s. (s .code, (s .memory, x .1 .1)))
+
+pub trawl-link-send-settled : OneOutcome 2 trawl-link-send-kinds.ps trawl-link-send-kinds.r trawl-link-send.Post
+trawl-link-send-settled κs a x y p q = alike (p ∙ sym q) (λ s. (s .code, (s .memory, x .1 .1)))
+
+pub trawl-link-receive-settled : OneOutcome 3 trawl-link-receive-kinds.ps trawl-link-receive-kinds.r trawl-link-receive.Post
+trawl-link-receive-settled κs a x y p q = alike (p ∙ sym q) (λ s. (s .code, (s .memory, (tt, (s .buffer, (s .value, tt))))))
+
+pub trawl-link-end-settled : OneOutcome 1 trawl-link-end-kinds.ps trawl-link-end-kinds.r trawl-link-end.Post
+trawl-link-end-settled κs a x y p q = alike (p ∙ sym q) (λ s. (s .code, (s .memory, x .1 .1)))
 
 pub trawl-clear-settled : OneOutcome 1 trawl-clear-kinds.ps trawl-clear-kinds.r trawl-clear.Post
 trawl-clear-settled κs a x y p q = alike (p ∙ sym q) (λ s. (s .code, (s .memory, x .1 .1)))

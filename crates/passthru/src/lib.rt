@@ -4,12 +4,13 @@ ghost use mathlib.Core.List.{[]};
 ghost use mathlib.Core.Bool.{not};
 ghost use lib.Dec.{eqb};
 ghost use Rattle.machine.specs.Codes.{twoRates};
-ghost use Rattle.machine.specs.Channel.{disconnect, clear, write, read, takeNext, sent, startFilter, startFlow, stopFilter, startPeriodic, stopPeriodic, getParameter, setParameter, lastError, getList, setList, flat};
+ghost use Rattle.machine.specs.Channel.{disconnect, clear, write, read, takeNext, sent, startFilter, startFlow, stopFilter, startPeriodic, stopPeriodic, getParameter, setParameter, lastError, getList, setList, flat, linkOpen, linkSend, linkReceive, linkEnd};
 ghost use Rattle.machine.specs.Step.{call, connect, close, advance, frame};
 ghost use Rattle.layout.specs.Promise.{gives};
 ghost use Rattle.memory.specs.Memory.{valid};
 ghost use Rattle.memory.specs.Promise.{outcome, powerOnOutcome};
 ghost use Rattle.device_lists.specs.Lists.{listed};
+ghost use Rattle.link_asking.specs.Asking.{askedOf};
 ghost use Rattle.telegram.specs.Bits.{bitValue};
 ghost use Rattle.telegram.specs.Telegram.{timeOf, readAny};
 ghost use Rattle.recording.specs.Replay.{leaves, pieced};
@@ -253,6 +254,65 @@ pub extern "C" fn trawl_last_error(mem: &[u8], channel: u32, code: &mut u32) -> 
     let answer = device::last_error(mem, channel);
     *code = answer.value;
     answer.code
+}
+
+// Asks for a TP2.0 connection on a raw channel's line.
+#[no_mangle]
+pub extern "C" fn trawl_link_open(
+    mem: &mut [u8],
+    channel: u32,
+    own: u32,
+    destination: u32,
+    rx: u32,
+    application: u32,
+    size: u32,
+    t1: u32,
+    t3: u32,
+) -> u32
+    ensures { λ c. ⌜ gives c 0 [] (now (mem .exit)) ≡ outcome twoRates (now (mem .entry)) (call channel (linkOpen (askedOf own destination rx application size t1 t3))) ⌝ }
+{
+    device::link_open(
+        mem,
+        channel,
+        own,
+        destination,
+        rx,
+        application,
+        size,
+        t1,
+        t3,
+    )
+}
+
+// A message to the partner of a connection.
+#[no_mangle]
+pub extern "C" fn trawl_link_send(mem: &mut [u8], channel: u32, message: &[u8]) -> u32
+    ensures { λ c. ⌜ gives c 0 [] (now (mem .exit)) ≡ outcome twoRates (now (mem .entry)) (call channel (linkSend (now (message .entry)))) ⌝ }
+{
+    device::link_send(mem, channel, message)
+}
+
+// The complete message that a connection received, to a buffer; its length.
+#[no_mangle]
+pub extern "C" fn trawl_link_receive(
+    mem: &mut [u8],
+    channel: u32,
+    buffer: &mut [u8],
+    length: &mut u32,
+) -> u32
+    ensures { λ c. ⌜ gives c (now (length .exit)) (now (buffer .exit)) (now (mem .exit)) ≡ outcome twoRates (now (mem .entry)) (call channel (linkReceive (now (buffer .entry)))) ⌝ }
+{
+    let received = device::link_receive(mem, channel, buffer);
+    *length = received.value;
+    received.code
+}
+
+// Ends a connection.
+#[no_mangle]
+pub extern "C" fn trawl_link_end(mem: &mut [u8], channel: u32) -> u32
+    ensures { λ c. ⌜ gives c 0 [] (now (mem .exit)) ≡ outcome twoRates (now (mem .entry)) (call channel linkEnd) ⌝ }
+{
+    device::link_end(mem, channel)
 }
 
 // The record of the telegram that `bytes` are, over the start of a buffer: an opening one where `opening` is not 0, else one on a channel.

@@ -61,6 +61,8 @@ pub const SENDING_SIZE: usize = PERIODICS_SIZE + WRITTEN_SIZE + FLIGHT_SIZE;
 pub const RECEIVING_SIZE: usize = QUEUE_SIZE + 1;
 
 pub const CONFIG_SIZE: usize = NUMBER + NUMBER + 1;
+// The TP2.0 connection, whose parts are named in `link_places`.
+pub const LINK_SIZE: usize = 1091;
 // In the region of an open channel, behind the open mark.
 pub const FLAGS: usize = 1;
 
@@ -84,14 +86,16 @@ pub const RECEIVING_END: usize = RECEIVING + RECEIVING_SIZE;
 
 pub const LAST: usize = RECEIVING_END;
 
-pub const REGION: usize = LAST + 1;
+pub const LINK: usize = LAST + 1;
+
+pub const REGION: usize = LINK + LINK_SIZE;
 // The memory begins with the clock; behind it lie the regions of the four raw channels.
 pub const REGIONS: usize = NUMBER;
 
 pub const REGIONS_SIZE: usize = LINES * REGION;
 
 // Every number above, in order: those of the definitions.
-pub fn numbers() -> [usize; 42]
+pub fn numbers() -> [usize; 44]
     ensures { λ r. ⌜ r ≡ named ⌝ }
 {
     [
@@ -124,6 +128,7 @@ pub fn numbers() -> [usize; 42]
         SENDING_SIZE,
         RECEIVING_SIZE,
         CONFIG_SIZE,
+        LINK_SIZE,
         FLAGS,
         RATE,
         LOOPBACK,
@@ -135,6 +140,7 @@ pub fn numbers() -> [usize; 42]
         LOST,
         RECEIVING_END,
         LAST,
+        LINK,
         REGION,
         REGIONS_SIZE,
     ]

@@ -14,7 +14,8 @@ use Rattle.codec.specs.Plain.{if_then_else_, within}
 use Rattle.machine.specs.Limits.{lines, recordSize}
 use Rattle.machine.specs.Codes.{codeOf}
 use Rattle.machine.specs.Message.{Rec, shown, shownAll}
-use Rattle.machine.specs.Channel.{Chan, closed, opened, Open, Call, read, takeNext, lent, Answer, says, withSending, withReceiving, unless, shorter, readCode, reading, onRead, Next, next, giving, chosen, taking, onTake, onOpen, onCall}
+use Rattle.machine.specs.Channel.{Chan, closed, opened, Open, Call, read, takeNext, lent, Answer, says, withSending, withReceiving, unless, shorter, readCode, reading, onRead, Next, next, giving, chosen, withLink, telegram, mayGo, chosenOr, taking, onTake, onOpen, onCall, rawOnly}
+use Rattle.link.specs.Connection.{Offer}
 use Rattle.machine.specs.Step.{call}
 use Rattle.iso.specs.Limits.{firstIso, isoRecordSize}
 use Rattle.iso.specs.Iso.{Iso, shut, ready, OpenIso, Flight, Chosen, setReceiving, setFlight, setWritten, setTalks, shownIso, shownIsoAll, shorterIso, unlessIso, isoReading, onIsoRead, choice, showing, onChosen, isoTaking, onIsoTake, onReady, onIsoCall}
@@ -97,9 +98,15 @@ module _ (o : Open) where
   by-choice none = nothing recordSize (OneOrNone recordSize) (λ b. chosen o none b) (opened o) 0x10 refl (λ b h. refl)
   by-choice (some x) = one recordSize (λ b. chosen o (some x) b) (withSending o (x .periodics) (x .written) (some (x .chosen))) (shown (x .chosen)) (λ b h. refl)
 
+  by-offer : (x : Option Offer) → Gives recordSize (OneOrNone recordSize) (λ (b : List ℕ). chosenOr o x b)
+  unfolding chosenOr giving
+  by-offer none = by-choice (next (o .sending .periodics) (o .sending .written))
+  by-offer (some x) =
+      one recordSize (λ b. chosenOr o (some x) b) (withSending (withLink o (x .then′)) (o .sending .periodics) (o .sending .written) (some (telegram x))) (shown (telegram x)) (λ b h. refl)
+
   by-flight : (f : Option Rec) → Gives recordSize (OneOrNone recordSize) (λ (b : List ℕ). taking o f b)
   unfolding taking giving
-  by-flight none = by-choice (next (o .sending .periodics) (o .sending .written))
+  by-flight none = by-offer (mayGo o)
   by-flight (some r) = one recordSize (λ b. taking o (some r) b) (opened o) (shown r) (λ b h. refl)
 
   open-take : Gives recordSize (OneOrNone recordSize) (λ (b : List ℕ). onTake o b)
@@ -164,10 +171,10 @@ iso-take rates now (ready o) = ready-take o
 -- ---- on the box
 
 -- a call with a buffer, on a channel of a kind
-on-kind : {C : Type 0} (kind : Kind C) (rates : List ℕ) (size : ℕ) (rule : ℕ → ℕ → ℕ → Type 0) (x : List ℕ → Call) → ((now : ℕ) (c : C) → Gives size rule (λ (b : List ℕ). kind .on rates now c (x b)))
+on-kind : {C : Type 0} (kind : Kind C) (rates : List ℕ) (size : ℕ) (rule : ℕ → ℕ → ℕ → Type 0) (x : List ℕ → Call) → ((b : List ℕ) → kind .barred (x b) ≡ false) → ((now : ℕ) (c : C) → Gives size rule (λ (b : List ℕ). kind .on rates now c (x b)))
     → (d : Device) → EightChannels d → (i : ℕ) → i < lines → Gives size rule (λ (b : List ℕ). step rates d (call (kind .number i) (x b)))
 unfolding says
-on-kind {C} kind rates size rule x on d eight i h =
+on-kind {C} kind rates size rule x any on d eight i h =
     let g = on (d .clock) (kind .row .chan i d) in
     record {
       after = kind .row .put i (kind .notes (g .code) (g .after)) d;
@@ -177,22 +184,22 @@ on-kind {C} kind rates size rule x on d eight i h =
       taken = g .taken;
       few = g .few;
       ruled = g .ruled;
-      is = λ b l. kind .steps rates d i (x b) eight h ∙ ap (λ (y : C × Answer). (kind .row .put i (kind .notes (y .1 .code) (y .0)) d, y .1)) (g .is b l);
+      is = λ b l. kind .steps rates d i (x b) eight h (any b) ∙ ap (λ (y : C × Answer). (kind .row .put i (kind .notes (y .1 .code) (y .0)) d, y .1)) (g .is b l);
     }
 
 -- on the channel of any number, whose records have their size by it
-module _ (rates : List ℕ) (d : Device) (eight : EightChannels d) (k : ℕ) (x : List ℕ → Call) (lends : (b : List ℕ) → lent (x b) ≡ b) (size : ℕ → ℕ) (rule : ℕ → ℕ → ℕ → ℕ → Type 0) (none : (unit : ℕ) → rule unit 0x02 0 0)
+module _ (rates : List ℕ) (d : Device) (eight : EightChannels d) (k : ℕ) (x : List ℕ → Call) (lends : (b : List ℕ) → lent (x b) ≡ b) (any : (b : List ℕ) → rawOnly (x b) ≡ false) (size : ℕ → ℕ) (rule : ℕ → ℕ → ℕ → ℕ → Type 0) (none : (unit : ℕ) → rule unit 0x02 0 0)
     (raw : (now : ℕ) (c : Chan) → Gives (size recordSize) (rule recordSize) (λ (b : List ℕ). onCall rates now c (x b))) (iso : (now : ℕ) (c : Iso) → Gives (size isoRecordSize) (rule isoRecordSize) (λ (b : List ℕ). onIsoCall rates now c (x b))) where
   abbrev Here : ℕ → ℕ → Type 0
   Here unit j = Gives (size unit) (rule unit) (λ (b : List ℕ). step rates d (call j (x b)))
 
   on-raw : (i : ℕ) → i < lines → Here recordSize (i + 1)
   unfolding rawKind
-  on-raw i h = on-kind rawKind rates (size recordSize) (rule recordSize) x raw d eight i h
+  on-raw i h = on-kind rawKind rates (size recordSize) (rule recordSize) x (λ b. refl) raw d eight i h
 
   on-iso : (i : ℕ) → i < lines → Here isoRecordSize (i + 5)
   unfolding isoKind
-  on-iso i h = on-kind isoKind rates (size isoRecordSize) (rule isoRecordSize) x iso d eight i h
+  on-iso i h = on-kind isoKind rates (size isoRecordSize) (rule isoRecordSize) x any iso d eight i h
 
   among-raw : onIso k ≡ false → (z : Bool) → within 1 channels k ≡ z → Here recordSize k
   unfolding onIso within says
@@ -227,8 +234,8 @@ module _ (rates : List ℕ) (d : Device) (eight : EightChannels d) (k : ℕ) (x 
 -- a read of n records, lent a buffer for as many; a take, lent one for one
 pub reads : (rates : List ℕ) (d : Device) → EightChannels d → (k n : ℕ) → Gives (recordOn k * n) (Counted n (recordOn k)) (λ (b : List ℕ). step rates d (call k (read n b)))
 unfolding lent
-reads rates d eight k n = by-number rates d eight k (λ b. read n b) (λ b. refl) (λ unit. unit * n) (Counted n) (λ unit. (omega arith, omega arith)) (raw-read rates n) (iso-read rates n)
+reads rates d eight k n = by-number rates d eight k (λ b. read n b) (λ b. refl) (λ b. refl) (λ unit. unit * n) (Counted n) (λ unit. (omega arith, omega arith)) (raw-read rates n) (iso-read rates n)
 
 pub takes : (rates : List ℕ) (d : Device) → EightChannels d → (k : ℕ) → Gives (recordOn k) (OneOrNone (recordOn k)) (λ (b : List ℕ). step rates d (call k (takeNext b)))
 unfolding lent
-takes rates d eight k = by-number rates d eight k (λ b. takeNext b) (λ b. refl) (λ unit. unit) OneOrNone (λ unit. refl) (raw-take rates) (iso-take rates)
+takes rates d eight k = by-number rates d eight k (λ b. takeNext b) (λ b. refl) (λ b. refl) (λ unit. unit) OneOrNone (λ unit. refl) (raw-take rates) (iso-take rates)

@@ -4,7 +4,7 @@ ghost use mathlib.Core.Path.{_≡_};
 ghost use lib.Dec.{T};
 ghost use Rattle.whole.specs.Device.{channels};
 ghost use Rattle.memory.specs.Memory.{valid};
-ghost use Rattle.memory.specs.Promise.{Placed};
+ghost use Rattle.memory.specs.Promise.{Placed, RawPlaced};
 ghost use Rattle.memory.specs.Runs.{placeAt};
 use places::LINES;
 
@@ -36,4 +36,16 @@ pub fn region_of(mem: &[u8], channel: u32) -> usize
         return 0;
     }
     base
+}
+
+// The same for a call that takes the number of a raw channel: 0 where no raw channel of that number is open.
+pub fn raw_region_of(mem: &[u8], channel: u32) -> usize
+    requires { ⌜ T (valid (now mem)) ⌝ }
+    ensures { λ r. ⌜ RawPlaced (now (mem .entry)) channel r ⌝ }
+{
+    let base = region_of(mem, channel);
+    if base < box_places::ISO_REGIONS {
+        return base;
+    }
+    0
 }

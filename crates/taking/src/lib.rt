@@ -36,18 +36,22 @@ fn take_next(r: &mut [u8], buffer: &mut [u8]) -> u32
     ensures { λ c. ⌜ ((rates : List ℕ) (t : ℕ) → gives c 0 (now (buffer .exit)) (now (r .exit)) ≡ callOutcome rates t (now (r .entry)) (takeNext (now (buffer .entry)))) ⌝ }
 {
     let i = pending::first_pending(&r[places::PERIODICS..places::WRITTEN]);
-    if (i >= places::PLACES) & (r[places::WRITTEN] == 0) {
+    let mut telegram = [0u8; places::RECORD];
+    let there = offering::offer(r, i, &mut telegram);
+    if (i >= places::PLACES) & !there & (r[places::WRITTEN] == 0) {
         return codes::ERR_BUFFER_EMPTY;
     }
     copy_record(
         &mut buffer[0..places::RECORD],
         choosing::choice(
             &r[places::PERIODICS..places::WRITTEN],
+            &telegram,
             &r[places::WRITTEN..places::FLIGHT],
             i,
+            there,
         ),
     );
-    choosing::free(r, i);
+    choosing::free(r, i, there);
     launch(
         &mut r[places::FLIGHT..places::RECEIVING],
         &buffer[0..places::RECORD],

@@ -1,7 +1,7 @@
 // A conversation some microseconds later: one second without the awaited frame drops its transfer, and STmin runs out.
 ghost use mathlib.Core.Path.{_≡_};
 ghost use mathlib.Core.List.{List};
-ghost use Prim.Native.Nat.{ℕ, _-_};
+ghost use Prim.Native.Nat.{ℕ};
 ghost use lib.Dec.{T};
 ghost use lib.ListN.{length};
 ghost use Rattle.codec.specs.Code.{slot};
@@ -47,16 +47,6 @@ fn waited(h: Head, us: u32) -> Head
     }
 }
 
-// What is left of a time.
-fn less(time: u32, us: u32) -> u32
-    ensures { λ r. ⌜ r ≡ time - us ⌝ }
-{
-    if time < us {
-        return 0;
-    }
-    time - us
-}
-
 // The head of a transfer, some microseconds later.
 pub fn later(h: Head, us: u32) -> Head
     ensures { λ r. ⌜ ((b : List ℕ) (x : Transfer) → Tells h b x → Tells r (remains r b) (laterTransfer us x)) ⌝ }
@@ -65,7 +55,7 @@ pub fn later(h: Head, us: u32) -> Head
         return waited(h, us);
     }
     if h.kind == 6 {
-        let wait = less(h.time, us);
+        let wait = integers::less(h.time, us);
         return timed_head(h, wait);
     }
     h

@@ -1,4 +1,4 @@
-// The timers of a channel's periodics, moved on in time.
+// The timers of a channel, moved on in time: those of its periodics and of its connection.
 ghost use mathlib.Core.Path.{_≡_};
 ghost use mathlib.Core.List.{map};
 ghost use Prim.Native.Nat.{ℕ, _<_, _≤_};
@@ -9,6 +9,7 @@ ghost use Rattle.machine.specs.Channel.{laterSlot, onAdvance};
 ghost use Rattle.layout.specs.Sizes.{regionSize};
 ghost use Rattle.layout.specs.Memory.{periodics, region};
 ghost use Rattle.stores.specs.Periodics.{PeriodicPart, changed};
+ghost use Rattle.timers.specs.Timed.{periodicsOn};
 
 // Where in a region the intervals end.
 const PHASES: usize = places::PERIODICS + places::PHASES_IN;
@@ -47,13 +48,25 @@ fn later_places(part: &mut [u8], us: u32)
     }
 }
 
-// A channel's region, open or closed, some microseconds later. Where every interval is 0 there is nothing to do.
-pub fn later(r: &mut [u8], us: u32)
+// The periodics of a channel's region, open or closed, some microseconds later. Where every interval is 0 there is nothing to do.
+fn later_periodics(r: &mut [u8], us: u32)
     requires { ⌜ (length (now r) ≡ regionSize) × T (region .valid (now r)) × (us ≤ mostAdvance) ⌝ }
-    ensures { λ u. ⌜ now (r .exit) ≡ region .put (onAdvance us (region .get (now (r .entry)))) ⌝ }
+    ensures { λ u. ⌜ now (r .exit) ≡ region .put (periodicsOn us (region .get (now (r .entry)))) ⌝ }
 {
     if octets::all_zero(&r[places::PERIODICS..PHASES]) {
         return;
     }
     later_places(&mut r[places::PERIODICS..places::WRITTEN], us);
+}
+
+// A channel's region, open or closed, some microseconds later: its connection and its periodics.
+pub fn later(r: &mut [u8], us: u32)
+    requires { ⌜ (length (now r) ≡ regionSize) × T (region .valid (now r)) × (us ≤ mostAdvance) ⌝ }
+    ensures { λ u. ⌜ now (r .exit) ≡ region .put (onAdvance us (region .get (now (r .entry)))) ⌝ }
+{
+    if r[0] == 0 {
+        return;
+    }
+    link_times::later(&mut r[places::LINK..places::REGION], us);
+    later_periodics(r, us);
 }

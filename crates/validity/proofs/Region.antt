@@ -7,18 +7,20 @@ use mathlib.Core.List.{List}
 use lib.ListN.{length, getD, take, drop}
 use lib.Seq.{getD-take, drop-drop}
 use lib.Dec.{leb}
-use Rattle.codec.specs.Plain.{member, allZero}
+use Rattle.codec.specs.Plain.{member, allZero, isByte}
 use Rattle.codec.specs.Word.{wordAt}
 use Rattle.codec.specs.Code.{Code, byte, word32, both, bothOn, via, such, mark, slot, upTo, upToOne, validSlot}
 use Rattle.codec.proofs.Word.{word-part, word-drop}
 use Rattle.machine.specs.Codes.{threeRates, callCodes}
 use Rattle.machine.specs.Channel.{isFlags}
 use Rattle.machine.specs.Limits.{mostWritten, mostToRead}
-use Rattle.layout.specs.Sizes.{configSize, filtersSize, periodicsSize, writtenSize, flightSize, queueSize, sendingSize, receivingSize, flagsAt, filtersAt, periodicsAt, receivingAt, lastAt, regionSize}
+use Rattle.layout.specs.Sizes.{configSize, filtersSize, periodicsSize, writtenSize, flightSize, queueSize, sendingSize, receivingSize, flagsAt, filtersAt, periodicsAt, receivingAt, lastAt, linkAt, regionSize}
 use Rattle.layout.specs.Record.{outCell, inCell}
-use Rattle.layout.specs.Memory.{configFits, config, filters, periodics, sendingPart, receivingPart, lastPart, rest, openPart, region}
-use Rattle.layout.proofs.Places.{Ends, Behind}
-use Rattle.layout.proofs.Sizes.{filters-size, periodics-size, written-size, queue-size, sending-size, receiving-size, config-size}
+use Rattle.layout.specs.Memory.{configFits, config, filters, periodics, sendingPart, receivingPart, lastPart, linkPart, rest, openPart, region}
+use Rattle.layout.proofs.Places.{Lasts, Ends, Behind}
+use Rattle.link_layout.specs.Sizes.{linkSize}
+use Rattle.codec.proofs.Lists.{all-take}
+use Rattle.layout.proofs.Sizes.{filters-size, periodics-size, written-size, queue-size, sending-size, receiving-size, last-size, config-size}
 use Rattle.stored_records.specs.Held.{cell}
 use Rattle.ten_places.specs.Place.{placesValid}
 use Rattle.stored_records.proofs.Parts.{Bytes, less, rest-part, behind-word, both-is, mark-is, byte-valid, at-rest}
@@ -67,30 +69,38 @@ module _ (flags : ℕ) where
       sym (both-is (upTo mostToRead (inCell flags)) mark queueSize m (queue-size flags)
       ∙ ap (λ (b : Bool). upTo mostToRead (inCell flags) .valid (take queueSize m) && b) (mark-is (drop queueSize m) (less queueSize m t) ∙ ap (λ (k : ℕ). leb k 1) (at-rest queueSize m)))
 
-  -- the last code
-  last-flat : (m : List ℕ) → Bytes m → lastPart .valid (drop lastAt m) ≡ member (getD m lastAt 0) callCodes
+  -- the last code, and the connection behind it
+  last-flat : (m : List ℕ) → Bytes m → lastPart .valid (take 1 (drop lastAt m)) ≡ member (getD m lastAt 0) callCodes
   unfolding lastPart such
-  last-flat m t = ap₂ (λ (b : Bool) (k : ℕ). b && member k callCodes) (byte-valid (drop lastAt m) (less lastAt m t)) (byte-got (drop lastAt m) ∙ at-rest lastAt m)
+  last-flat m t =
+      let x : List ℕ = drop lastAt m in
+      ap₂ (λ (b : Bool) (k : ℕ). b && member k callCodes) (byte-valid (take 1 x) (all-take isByte 1 x (less lastAt m t))) (byte-got (take 1 x) ∙ getD-take 1 x 0 0 (omega arith) ∙ at-rest lastAt m)
+
+  lasts-flat : (m : List ℕ) → Bytes m → length m ≡ regionSize
+      → Lasts flags .valid (drop lastAt m) ≡ (member (getD m lastAt 0) callCodes && linkPart flags .valid (take linkSize (drop linkAt m)))
+  lasts-flat m t h =
+      both-is lastPart (linkPart flags) 1 (drop lastAt m) last-size
+      ∙ ap₂ (λ (a : Bool) (x : List ℕ). a && linkPart flags .valid x) (last-flat m t) (drop-drop 1 lastAt m ∙ sym (rest-part linkAt linkSize m h))
 
   -- what lies behind the configuration, each part where it begins in the region
   abbrev pub restTests : List ℕ → Bool
   restTests m =
       placesValid false flags (take filtersSize (drop filtersAt m))
       && (sendingPart flags .valid (take sendingSize (drop periodicsAt m))
-      && (receivingPart flags .valid (take receivingSize (drop receivingAt m)) && member (getD m lastAt 0) callCodes))
+      && (receivingPart flags .valid (take receivingSize (drop receivingAt m)) && (member (getD m lastAt 0) callCodes && linkPart flags .valid (take linkSize (drop linkAt m)))))
 
-  rest-flat : (m : List ℕ) → Bytes m → rest flags .valid (drop filtersAt m) ≡ restTests m
+  rest-flat : (m : List ℕ) → Bytes m → length m ≡ regionSize → rest flags .valid (drop filtersAt m) ≡ restTests m
   unfolding rest placesValid
-  rest-flat m t =
+  rest-flat m t h =
       both-is (filters flags) (Behind flags) filtersSize (drop filtersAt m) (filters-size flags)
       ∙ ap (λ (b : Bool). filters flags .valid (take filtersSize (drop filtersAt m)) && b)
       (ap (λ (x : List ℕ). Behind flags .valid x) (drop-drop filtersSize filtersAt m)
       ∙ both-is (sendingPart flags) (Ends flags) sendingSize (drop periodicsAt m) (sending-size flags)
       ∙ ap (λ (b : Bool). sendingPart flags .valid (take sendingSize (drop periodicsAt m)) && b)
       (ap (λ (x : List ℕ). Ends flags .valid x) (drop-drop sendingSize periodicsAt m)
-      ∙ both-is (receivingPart flags) lastPart receivingSize (drop receivingAt m) (receiving-size flags)
+      ∙ both-is (receivingPart flags) (Lasts flags) receivingSize (drop receivingAt m) (receiving-size flags)
       ∙ ap (λ (b : Bool). receivingPart flags .valid (take receivingSize (drop receivingAt m)) && b)
-      (ap (λ (x : List ℕ). lastPart .valid x) (drop-drop receivingSize receivingAt m) ∙ last-flat m t)))
+      (ap (λ (x : List ℕ). Lasts flags .valid x) (drop-drop receivingSize receivingAt m) ∙ lasts-flat m t h)))
 
 -- the flags stand at the front
 word-take : (m : List ℕ) → wordAt 0 (take configSize m) ≡ wordAt 0 m
@@ -101,14 +111,14 @@ pub config-key : (m : List ℕ) → config .get (take configSize (drop flagsAt m
 unfolding config such via
 config-key m = first-word (take configSize (drop flagsAt m)) ∙ word-take (drop flagsAt m) ∙ word-drop 0 flagsAt m
 
-pub open-flat : (m : List ℕ) → Bytes m
+pub open-flat : (m : List ℕ) → Bytes m → length m ≡ regionSize
     → (config .valid (take configSize (drop flagsAt m)) && restTests (wordAt flagsAt m) m) ≡ openPart .valid (drop flagsAt m)
 unfolding openPart via bothOn
-open-flat m t =
+open-flat m t h =
     let c : Bool = config .valid (take configSize (drop flagsAt m)) in
     sym (ap (λ (k : ℕ). config .valid (take k (drop flagsAt m)) && rest (config .get (take k (drop flagsAt m)) .flags) .valid (drop k (drop flagsAt m))) config-size
     ∙ ap₂ (λ (k : ℕ) (x : List ℕ). c && rest k .valid x) (config-key m) (drop-drop configSize flagsAt m)
-    ∙ ap (λ (b : Bool). c && b) (rest-flat (wordAt flagsAt m) m t))
+    ∙ ap (λ (b : Bool). c && b) (rest-flat (wordAt flagsAt m) m t h))
 
 -- ---- a region
 

@@ -1,6 +1,7 @@
 // Is this the region of a raw channel? Each function decides what one part of the layout calls valid, and the cost grows with what is held.
 use can::is_flags;
 use can::is_known_rate;
+use can::takes_width;
 use integers::wide;
 use integers::word_at;
 use noting::is_kept;
@@ -9,7 +10,8 @@ use stored_records::store;
 ghost use mathlib.Core.Path.{_≡_};
 ghost use lib.ListN.{length, drop};
 ghost use Rattle.layout.specs.Sizes.{configSize, sendingSize, receivingSize, flagsAt, regionSize};
-ghost use Rattle.layout.specs.Memory.{config, sendingPart, receivingPart, openPart, region};
+ghost use Rattle.layout.specs.Memory.{config, sendingPart, receivingPart, linkPart, openPart, region};
+ghost use Rattle.link_layout.specs.Sizes.{linkSize};
 
 // In the configuration, behind the flags; in the sending part, behind the periodics.
 const RATE_IN: usize = places::RATE - places::FLAGS;
@@ -52,6 +54,14 @@ fn receiving(s: &[u8], flags: u32) -> bool
         & (s[places::QUEUE_SIZE] <= 1)
 }
 
+// No connection, or one on a channel that takes narrow frames.
+fn link(s: &[u8], flags: u32) -> bool
+    requires { ⌜ length (now s) ≡ linkSize ⌝ }
+    ensures { λ r. ⌜ r ≡ linkPart flags .valid (now (s .entry)) ⌝ }
+{
+    link_validity::valid(s) & ((s[0] == 0) | takes_width(flags, false))
+}
+
 // The region of an open channel, behind its open mark: every width there is one that its flags take, and the last code one that is kept.
 fn opened(s: &[u8]) -> bool
     requires { ⌜ length (now s) ≡ regionSize ⌝ }
@@ -62,7 +72,8 @@ fn opened(s: &[u8]) -> bool
         & (ten_places::valid(&s[places::FILTERS..places::PERIODICS], flags, false)
             & (sending(&s[places::PERIODICS..places::RECEIVING], flags)
                 & (receiving(&s[places::RECEIVING..places::RECEIVING_END], flags)
-                    & is_kept(wide(s[places::LAST])))))
+                    & (is_kept(wide(s[places::LAST]))
+                        & link(&s[places::LINK..places::REGION], flags)))))
 }
 
 // A channel's region: closed and zeros, or open.

@@ -29,7 +29,7 @@ returns-3 c rates =
     let at = did .before .before .before .before in
     let seat = at .region-of .ensures .iso (did .before .before .if2 .left) in
     let long : length (did .disconnect-in2 .last .0) ≡ isoRegionSize = omega arith in
-    iso-called _ (at .before .before .before .pre) _ _ seat rates _ _ _ _ _ _ long (did .disconnect-in2 .ensures rates _) refl
+    iso-called _ (at .before .before .before .pre) _ _ seat rates _ _ _ _ _ _ long (did .disconnect-in2 .ensures rates _) refl refl
 
 pub disconnect-spec : {M : Type 1} → statement M
 unfolding lent

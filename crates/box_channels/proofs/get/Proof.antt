@@ -1,4 +1,5 @@
 -- `box_channels::get` meets its contract. Assumes nothing.
+use mathlib.Core.Path.{refl}
 use mathlib.Core.List.{[]}
 use native.Mathlib.Omega.{arith}
 use Rattle.machine.specs.Channel.{lent}
@@ -33,7 +34,7 @@ returns-3 c rates =
     let did = c .before .before .before .before in
     let at = did .before .before .before .before .before in
     let seat = at .region-of .ensures .iso (did .before .before .before .if2 .left) in
-    iso-looked _ (at .before .before .before .pre) _ _ seat rates _ _ _ _ (did .get-in2 .ensures rates _) _ (c .before .before .note2 .ensures)
+    iso-looked _ (at .before .before .before .pre) _ _ seat rates _ _ _ _ (did .get-in2 .ensures rates _) _ (c .before .before .note2 .ensures) refl
 
 pub get-spec : {M : Type 1} → statement M
 unfolding lent

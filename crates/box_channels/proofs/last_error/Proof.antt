@@ -22,7 +22,7 @@ unfolding notedIn
 returns-3 c rates =
     let at = c .before .before .before .before in
     let seat = at .region-of .ensures .iso (c .before .before .if2 .left) in
-    iso-looked _ (at .before .before .pre) _ _ seat rates _ _ _ _ (c .last-in2 .ensures rates _) _ refl
+    iso-looked _ (at .before .before .pre) _ _ seat rates _ _ _ _ (c .last-in2 .ensures rates _) _ refl refl
 
 pub last-error-spec : {M : Type 1} → statement M
 unfolding lent

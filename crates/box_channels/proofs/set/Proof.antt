@@ -1,5 +1,5 @@
 -- `box_channels::set` meets its contract. Assumes nothing.
-use mathlib.Core.Path.{_≡_}
+use mathlib.Core.Path.{_≡_, refl}
 use native.Mathlib.Omega.{arith}
 use lib.ListN.{length}
 use Rattle.machine.specs.Channel.{lent}
@@ -40,7 +40,7 @@ returns-3 c =
     let at = did .before .before .before .before in
     let seat = at .region-of .ensures .iso (did .before .before .if2 .left) in
     let long : length (did .set-in2 .last .0) ≡ isoRegionSize = omega arith in
-    iso-called _ (at .before .before .before .before .pre) _ _ seat _ _ _ _ _ _ _ long (did .set-in2 .ensures _) (c .before .before .note2 .ensures)
+    iso-called _ (at .before .before .before .before .pre) _ _ seat _ _ _ _ _ _ _ long (did .set-in2 .ensures _) (c .before .before .note2 .ensures) refl
 
 pub set-spec : {M : Type 1} → statement M
 unfolding lent

@@ -5,15 +5,15 @@ use Rattle.box_frames.proofs.Laws.{not-closed, offer-closed, offer-open
 use Rattle.box_frames.proofs.offer.Statement.{statement}
 use Rattle.box_frames.proofs.offer.Tie as tie
 
-offer-requires : tie.Need-offer-requires
-offer-requires c κs =
+meet-requires : tie.Need-meet-requires
+meet-requires c κs =
     let start = c .before .before .before .before .before in
     (not-closed _ (start .pre .0) (start .pre .1) (c .before .if1 .left), short-frame _ _ _ (start .pre .2))
 
 returns-2 : tie.Need-returns-2
 returns-2 c =
     let start = c .before .before .before .before .before .before .before .before in
-    offer-open _ (start .pre .0) (start .pre .1) _ _ _ _ (start .pre .2) (not-closed _ (start .pre .0) (start .pre .1) (c .before .before .before .before .if1 .left)) _ (c .before .before .offer .ensures)
+    offer-open _ (start .pre .0) (start .pre .1) _ _ _ _ (start .pre .2) (not-closed _ (start .pre .0) (start .pre .1) (c .before .before .before .before .if1 .left)) _ (c .before .before .meet .ensures)
 
 pub offer-spec : {M : Type 1} → statement M
 offer-spec =
@@ -21,6 +21,6 @@ offer-spec =
     (tie.spec
     (λ c. search needs)
     (λ c. offer-closed _ (c .before .before .before .before .pre .0) (c .before .before .before .before .pre .1) _ _ _ _ (c .if1 .taken))
-    offer-requires
+    meet-requires
     (λ c. search needs)
     returns-2)

@@ -1,5 +1,5 @@
 -- `box_orders::start_flow_filter` meets its contract: on a raw region the third record is not looked at. Assumes nothing.
-use mathlib.Core.Path.{_≡_, _∙_}
+use mathlib.Core.Path.{_≡_, refl, _∙_}
 use mathlib.Core.List.{[]}
 use native.Mathlib.Omega.{arith}
 use lib.ListN.{length}
@@ -42,7 +42,7 @@ returns-3 c rates =
     let at = did .before .before .before .before in
     let seat = at .region-of .ensures .iso (did .before .before .if2 .left) in
     let long : length (did .start-in .last .0) ≡ isoRegionSize = omega arith in
-    iso-called _ (at .before .before .before .before .before .before .pre) _ _ seat rates _ _ _ _ _ _ long (did .start-in .ensures rates _) (c .before .before .note2 .ensures)
+    iso-called _ (at .before .before .before .before .before .before .pre) _ _ seat rates _ _ _ _ _ _ long (did .start-in .ensures rates _) (c .before .before .note2 .ensures) refl
 
 pub start-flow-filter-spec : {M : Type 1} → statement M
 unfolding lent

@@ -1,5 +1,5 @@
 -- `box_orders::stop_periodic` meets its contract. Assumes nothing.
-use mathlib.Core.Path.{_≡_}
+use mathlib.Core.Path.{_≡_, refl}
 use mathlib.Core.List.{[]}
 use native.Mathlib.Omega.{arith}
 use lib.ListN.{length}
@@ -39,7 +39,7 @@ returns-3 c rates =
     let did = c .before .before .before .before in
     let at = did .before .before .before in
     let seat = at .region-of .ensures .iso (did .before .if2 .left) in
-    iso-looked _ (at .before .before .before .pre) _ _ seat rates _ _ _ _ (did .stop-in .ensures _ (iso-lent _ (at .before .before .before .pre) _ _ seat) rates _ _) _ (c .before .before .note2 .ensures)
+    iso-looked _ (at .before .before .before .pre) _ _ seat rates _ _ _ _ (did .stop-in .ensures _ (iso-lent _ (at .before .before .before .pre) _ _ seat) rates _ _) _ (c .before .before .note2 .ensures) refl
 
 pub stop-periodic-spec : {M : Type 1} → statement M
 unfolding lent

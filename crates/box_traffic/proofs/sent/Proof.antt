@@ -1,5 +1,5 @@
 -- `box_traffic::sent` meets its contract. Assumes nothing.
-use mathlib.Core.Path.{_≡_}
+use mathlib.Core.Path.{_≡_, refl}
 use mathlib.Core.List.{[]}
 use native.Mathlib.Omega.{arith}
 use lib.ListN.{length}
@@ -43,7 +43,7 @@ returns-3 c rates =
     let at = did .before .before .before .before .before .before in
     let seat = at .region-of .ensures .iso (did .before .before .if2 .left) in
     let long : length (did .sent2 .last .0) ≡ isoRegionSize = omega arith in
-    iso-called _ (at .before .before .before .pre) _ _ seat rates _ _ _ _ _ _ long (iso-at-clock _ (at .before .before .before .pre) rates _ _ _ _ _ _ _ (did .before .before .before .word-at .ensures .0) (did .sent2 .ensures rates)) (c .before .before .note2 .ensures)
+    iso-called _ (at .before .before .before .pre) _ _ seat rates _ _ _ _ _ _ long (iso-at-clock _ (at .before .before .before .pre) rates _ _ _ _ _ _ _ (did .before .before .before .word-at .ensures .0) (did .sent2 .ensures rates)) (c .before .before .note2 .ensures) refl
 
 pub sent-spec : {M : Type 1} → statement M
 unfolding lent

@@ -1,8 +1,9 @@
 -- `validity::opened` meets its contract. Assumes nothing.
 use Rattle.validity.proofs.Region.{open-flat}
 use Rattle.ten_places.specs.Place.{placesSize, placesValid}
-use Rattle.layout.specs.Memory.{sendingPart, receivingPart}
-use Rattle.layout.specs.Sizes.{filtersSize, sendingSize, receivingSize, filtersAt, periodicsAt, receivingAt}
+use Rattle.layout.specs.Memory.{sendingPart, receivingPart, linkPart}
+use Rattle.layout.specs.Sizes.{filtersSize, sendingSize, receivingSize, filtersAt, periodicsAt, receivingAt, linkAt}
+use Rattle.link_layout.specs.Sizes.{linkSize}
 use lib.ListN.{take, drop}
 use Prim.Native.Nat.{ℕ}
 use Rattle.codec.specs.Plain.{member}
@@ -19,7 +20,8 @@ unfolding placesSize
 valid-requires c κs = search needs
 
 returns : tie.Need-returns
-returns c = let received = c .before .before .before in
+returns c = let told = c .before .before in
+    let received = told .before .before .before in
     let sent = received .before .before in
     let placed = sent .before .before in
     let set = placed .before .before in
@@ -30,9 +32,10 @@ returns c = let received = c .before .before .before in
     let filters = placed .valid .ensures ∙ ap (λ (k : ℕ). placesValid false k (take filtersSize (drop filtersAt s))) f in
     let sends = sent .sending .ensures ∙ ap (λ (k : ℕ). sendingPart k .valid (take sendingSize (drop periodicsAt s))) f in
     let receives = received .receiving .ensures ∙ ap (λ (k : ℕ). receivingPart k .valid (take receivingSize (drop receivingAt s))) f in
-    let kept = c .is-kept .ensures ∙ ap (λ (k : ℕ). member k callCodes) (c .before .wide .ensures .0) in
-    ap₂ (λ (x y : Bool). x && y) (set .configuration .ensures) (ap₂ (λ (x y : Bool). x && y) filters (ap₂ (λ (x y : Bool). x && y) sends (ap₂ (λ (x y : Bool). x && y) receives kept)))
-    ∙ open-flat s (first .word-at .ensures .1)
+    let kept = told .is-kept .ensures ∙ ap (λ (k : ℕ). member k callCodes) (told .before .wide .ensures .0) in
+    let linked = c .link .ensures ∙ ap (λ (k : ℕ). linkPart k .valid (take linkSize (drop linkAt s))) f in
+    ap₂ (λ (x y : Bool). x && y) (set .configuration .ensures) (ap₂ (λ (x y : Bool). x && y) filters (ap₂ (λ (x y : Bool). x && y) sends (ap₂ (λ (x y : Bool). x && y) receives (ap₂ (λ (x y : Bool). x && y) kept linked))))
+    ∙ open-flat s (first .word-at .ensures .1) (start .pre)
 
 pub opened-spec : {M : Type 1} → statement M
 opened-spec =
@@ -57,5 +60,9 @@ opened-spec =
     (λ c κs. search needs)
     (λ c. search needs)
     (λ c κs. search needs)
+    (λ c κs. search needs)
+    (λ c. search needs)
+    (λ c. search needs)
+    (λ c. search needs)
     (λ c κs. search needs)
     returns)

@@ -1,0 +1,3 @@
+pub mod Care
+pub mod Turns
+pub mod Read

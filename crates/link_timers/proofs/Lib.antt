@@ -1,0 +1,4 @@
+pub mod Spaces
+pub mod Tries
+pub mod Outs
+pub mod Tests
