@@ -1,4 +1,4 @@
-/* Trawlpepper: the core of a four-line pass-thru box (SAE J2534-1, raw CAN and ISO 15765), proved.
+/* Trawlpepper: the core of a four-line pass-thru box (SAE J2534-1, raw CAN, ISO 15765 and TP2.0), proved.
  *
  * All state is one memory of TRAWL_MEMORY bytes that you lend to every call; docs/LAYOUT.md names each byte of it. Calls keep nothing else,
  * allocate nothing and never block. A call's answer is a code (below) and, for some, a number: a channel, a count, a value. The number comes
@@ -30,8 +30,8 @@
  *         printf("%u bytes from 0x%04X\n", (unsigned)trawl_record_size(record), (unsigned)trawl_record_identifier(record));
  *
  * Each line has a raw CAN channel, 1 to 4, and an ISO 15765 channel, 5 to 8, which may be open beside it; records of the latter have
- * TRAWL_ISO_RECORD bytes. Whole programs are c/examples/car.c and c/examples/iso_message.c; docs/INTEGRATING.md is the guide for those who build a
- * box.
+ * TRAWL_ISO_RECORD bytes. A raw channel may hold a TP2.0 connection. Whole programs are c/examples/car.c, c/examples/iso_message.c and
+ * c/examples/link_message.c; docs/INTEGRATING.md is the guide for those who build a box.
  */
 #ifndef TRAWLPEPPER_H
 #define TRAWLPEPPER_H
@@ -45,19 +45,20 @@ extern "C" {
 
 /* The version of this header and of the archive built from the same sources. The first number changes when a program or a kept memory that was
  * good may be so no more, the second when something is added, the third with everything else. TRAWL_VERSION is for comparing. */
-#define TRAWL_VERSION_MAJOR 5
+#define TRAWL_VERSION_MAJOR 6
 #define TRAWL_VERSION_MINOR 0
 #define TRAWL_VERSION_PATCH 0
 #define TRAWL_VERSION (TRAWL_VERSION_MAJOR * 10000 + TRAWL_VERSION_MINOR * 100 + TRAWL_VERSION_PATCH)
 
 /* The size of the device memory; of a message record of channels 1 to 4 and of one of channels 5 to 8, and the most payload bytes of the latter; of
- * a telegram record, and the room for the bytes of a telegram; the most pairs of a list. */
-#define TRAWL_MEMORY 42256u
+ * a telegram record, and the room for the bytes of a telegram; the longest message of a TP2.0 connection; the most pairs of a list. */
+#define TRAWL_MEMORY 46620u
 #define TRAWL_RECORD 36u
 #define TRAWL_ISO_RECORD 536u
 #define TRAWL_ISO_PAYLOAD 508u
 #define TRAWL_TELEGRAM 32u
 #define TRAWL_TELEGRAM_ROOM 8u
+#define TRAWL_LINK_MESSAGE 512u
 #define TRAWL_PAIRS 16u
 
 /* Every name of J2534-1 stands here with the prefix TRAWL_. Without it the same names are defined at the end of this file, unless you define
@@ -67,23 +68,23 @@ extern "C" {
 /* Codes, by J2534-1's names. */
 #define TRAWL_STATUS_NOERROR 0x00u
 #define TRAWL_ERR_NOT_SUPPORTED 0x01u         /* unknown configuration parameter; a periodic on channels 5 to 8 */
-#define TRAWL_ERR_INVALID_CHANNEL_ID 0x02u    /* channel number not 1 to 8, or not open */
+#define TRAWL_ERR_INVALID_CHANNEL_ID 0x02u    /* channel number not 1 to 8 (TP2.0: 1 to 4), or not open */
 #define TRAWL_ERR_INVALID_PROTOCOL_ID 0x03u   /* connect: protocol is not 5 or 6 */
-#define TRAWL_ERR_NULL_PARAMETER 0x04u        /* lent buffer too short; a list of more than 16 pairs */
+#define TRAWL_ERR_NULL_PARAMETER 0x04u        /* lent buffer too short (TP2.0: under 512); a list of more than 16 pairs */
 #define TRAWL_ERR_INVALID_IOCTL_VALUE 0x05u   /* bad value for a known parameter */
 #define TRAWL_ERR_INVALID_FLAGS 0x06u         /* connect: a flag other than 0x100, 0x800 */
-#define TRAWL_ERR_FAILED 0x07u                /* sent with nothing in flight */
+#define TRAWL_ERR_FAILED 0x07u                /* sent with nothing in flight; no TP2.0 connection stands */
 #define TRAWL_ERR_TIMEOUT 0x09u               /* read: some records, fewer than asked (a result) */
-#define TRAWL_ERR_INVALID_MSG 0x0Au           /* bad message, frame or telegram */
+#define TRAWL_ERR_INVALID_MSG 0x0Au           /* bad message, frame or telegram; TP2.0: bad fields, no narrow frames */
 #define TRAWL_ERR_INVALID_TIME_INTERVAL 0x0Bu /* interval not 5 to 65,535 ms; advance over 1,000,000 us */
 #define TRAWL_ERR_EXCEEDED_LIMIT 0x0Cu        /* ten filters or ten periodics exist; on channels 5 to 8 two filters */
 #define TRAWL_ERR_INVALID_MSG_ID 0x0Du        /* no periodic of that number on this channel */
 #define TRAWL_ERR_INVALID_IOCTL_ID 0x0Fu      /* clear of an unknown kind */
-#define TRAWL_ERR_BUFFER_EMPTY 0x10u          /* read: no record; take: no frame */
-#define TRAWL_ERR_BUFFER_FULL 0x11u           /* write: no room */
+#define TRAWL_ERR_BUFFER_EMPTY 0x10u          /* read: no record; take: no frame; no complete TP2.0 message */
+#define TRAWL_ERR_BUFFER_FULL 0x11u           /* write: no room; a TP2.0 message is under way */
 #define TRAWL_ERR_BUFFER_OVERFLOW 0x12u       /* records were lost since the last report (a result) */
 #define TRAWL_ERR_PIN_INVALID 0x13u           /* line over 3 */
-#define TRAWL_ERR_CHANNEL_IN_USE 0x14u        /* that channel of the line is already open */
+#define TRAWL_ERR_CHANNEL_IN_USE 0x14u        /* that channel of the line is already open; it has a TP2.0 connection */
 #define TRAWL_ERR_MSG_PROTOCOL_ID 0x15u       /* protocol field of a record is not 5, on channels 5 to 8 not 6 */
 #define TRAWL_ERR_INVALID_FILTER_ID 0x16u     /* filter type not 1 or 2, on channels 5 to 8 not 3; no filter of that number */
 #define TRAWL_ERR_NO_FLOW_CONTROL 0x17u       /* write on channels 5 to 8: more than 7 payload bytes, and no filter for them */
@@ -291,6 +292,26 @@ static inline uint32_t trawl_clear_kind(uint32_t ioctl) {
  *   - A channel holds 8 records for reading and 4 written messages, beside the one under way. It has no periodics. Its rate, loopback, records and
  *   last code are its own. It doesn't hear what the raw channel of its line sends, nor the other way round; frames that come are for both. */
 
+/* ---- TP2.0 connections of channels 1 to 4 ----
+ *
+ *   - A raw channel that takes narrow frames may hold one connection to a module (SAE J2819), which the box opens: four at once, one on each line.
+ *   trawl_link_open begins it, and the box makes and understands all telegrams, through take, sent, frame and advance like everything else. Whether
+ *   it stands trawl_link_receive tells: 0x10 and not 0x07.
+ *   - Opening: a set-up on your identifier, sent again each 100 ms without a reply, eleven in all; then the connection set-up on the TX-ID of the
+ *   reply, as often. A negative reply, or none to the last, ends it, and no code tells but 0x07 at the next call. Replies are those of 0x200 plus
+ *   the destination, to the low byte of your identifier, with your RX-ID and application.
+ *   - Messages of 1 to 512 bytes go in telegrams of seven, in blocks of the smaller block size of both sides; the last telegram of a block and of a
+ *   message asks for an acknowledgement. Where none comes within T1 (yours) it goes again, three in all, and then the connection ends. The partner
+ *   may ask for telegrams of a block again five times, let the box wait for 100 ms, or break the message off: then one empty telegram ends it, and
+ *   no code tells that the rest is missing. Telegrams are as far apart as the partner's T3 says.
+ *   - One message is received at a time: until it is fetched the partner is told not ready. One of more than 512 bytes ends the connection.
+ *   - Each second the box tests the connection, and answers tests of the partner. The seventh second without an answer ends it.
+ *   - An end, the caller's or one of the above, is told to the partner by a disconnect telegram where the channel stands, after the frame in flight
+ *   and T3; until it is sent another opening is 0x14. A disconnect telegram of the partner ends it at once. A message that was complete and not
+ *   fetched is gone with it.
+ *   - Its telegrams go behind pending periodics and before written records. Frames that it hears are still for the raw filters, and what it sends
+ *   echoes with loopback on. All its times count accepted advances alone. */
+
 /* ---- the driver's loop ----
  *
  * You write the functions of the controller: whether it received a frame (and which), whether it has sent the frame it was handed since you
@@ -311,15 +332,17 @@ static inline uint32_t trawl_clear_kind(uint32_t ioctl) {
         }
     }
 
- * Sent comes before the frames: a partner's flow frame counts only after the sent of the frame that it answers. A frame that was taken is in
- * flight: one a channel, and it stays so until it is sent, or the channel is disconnected. While it is, take gives the same bytes again, and
- * nothing behind it moves. So:
+ * Sent comes before the frames: a partner's flow frame or acknowledgement counts only after the sent of the frame that it answers. A frame that was
+ * taken is in flight: one a channel, and it stays so until it is sent, or the channel is disconnected. While it is, take gives the same bytes
+ * again, and nothing behind it moves. So:
  *   - Where the controller FAILS TO SEND (arbitration lost, no acknowledgement, bus off), call nothing. The next take gives the frame again, and
  *   handing it over again is the retry. J2534-1 wants that retries go on until they succeed or the application stops them.
  *   - To GIVE IT UP, empty the flight: with loopback off call trawl_sent. With loopback on that would queue an echo of a frame that was never on
  *   the line: set LOOPBACK to 0, call trawl_sent, set it to 1 again. Clear and stopping a periodic leave the flight, so where J2534-1's
  *   CLEAR_TX_BUFFER is to stop retries, do this after trawl_clear, and take the frame back from the controller first. On channels 5 to 8 a sent
  *   goes on with the message, or tells that it is done: stop the filter first, or, of a message in a single frame, disconnect.
+ *   - On channels 1 to 4 a sent of a TP2.0 telegram starts the times of its connection, as if the partner could have heard it: end the connection
+ *   first where that is not wanted.
  *   - On disconnect and close take back what the controller still holds: the flight is gone, and a trawl_sent for it would answer 0x07, or, where
  *   a frame was taken since, speak of that one.
  *   - With loopback on the box makes the echo, at the sent. Don't hand your own frames to trawl_frame as well. */
@@ -348,20 +371,21 @@ uint32_t trawl_power_on(uint8_t *memory, size_t memory_length);
 uint32_t trawl_connect(uint8_t *memory, size_t memory_length, uint32_t line, uint32_t protocol, uint32_t flags, uint32_t rate,
                        uint32_t *channel);
 
-/* Disconnects every channel, frames in flight too. The clock runs on.
+/* Disconnects every channel, frames in flight and TP2.0 connections too, which say nothing more. The clock runs on.
  * Codes: 0x1A. */
 uint32_t trawl_close(uint8_t *memory, size_t memory_length);
 
-/* Time goes on by 0 to 1,000,000 microseconds, for the clock (modulo 2^32), every periodic and every ISO 15765 transfer: a periodic that reaches one
- * or more of its due times is pending, once; a transfer that has waited a second for its partner's frame is dropped, and a pause between
- * consecutive frames gets shorter. No other call moves time.
+/* Time goes on by 0 to 1,000,000 microseconds, for the clock (modulo 2^32), every periodic, every ISO 15765 transfer and every TP2.0 connection: a
+ * periodic that reaches one or more of its due times is pending, once; a transfer that has waited a second for its partner's frame is dropped, and a
+ * pause between consecutive frames gets shorter; a connection repeats what had no answer, tests, or gives up. No other call moves time.
  * Codes: 0x1A; 0x0B over 1,000,000, and no time passes. */
 uint32_t trawl_advance(uint8_t *memory, size_t memory_length, uint32_t microseconds);
 
 /* A frame came in on a line: wide is 0 (11 bits) or 1 (29 bits), data has 0 to 8 bytes. Both channels of the line hear it, each if it is open. The
- * raw one queues it as a record with the clock as its timestamp if it takes the width and its filters let it in; the ISO 15765 one does what the
- * frame says if it has the pattern and the width of a filter, which may queue a record. Else it is dropped, and 0x00 is the answer all the same.
- * Where 32 records (ISO 15765: 8) wait already a record is dropped and the lost mark is set, again with 0x00: the next read tells.
+ * raw one queues it as a record with the clock as its timestamp if it takes the width and its filters let it in, and a narrow one is also for its
+ * TP2.0 connection, whatever the filters say; the ISO 15765 one does what the frame says if it has the pattern and the width of a filter, which may
+ * queue a record. Else it is dropped, and 0x00 is the answer all the same. Where 32 records (ISO 15765: 8) wait already a record is dropped and the
+ * lost mark is set, again with 0x00: the next read tells.
  * Codes: 0x1A; 0x13 line over 3; 0x0A wide over 1, identifier over 0x7FF or (wide) 0x1FFFFFFF, or data_length over 8. */
 uint32_t trawl_frame(uint8_t *memory, size_t memory_length, uint32_t line, uint32_t wide, uint32_t identifier, const uint8_t *data,
                      size_t data_length);
@@ -370,7 +394,7 @@ uint32_t trawl_frame(uint8_t *memory, size_t memory_length, uint32_t line, uint3
  *
  * A record has 36 bytes on channels 1 to 4 and 536 on channels 5 to 8; R stands for that size. */
 
-/* Closes the channel: everything in it is gone, the frame in flight too.
+/* Closes the channel: everything in it is gone, the frame in flight too, and its TP2.0 connection without a disconnect telegram.
  * Codes: 0x1A; 0x02 channel not 1 to 8, or not open. */
 uint32_t trawl_disconnect(uint8_t *memory, size_t memory_length, uint32_t channel);
 
@@ -423,7 +447,8 @@ uint32_t trawl_read(uint8_t *memory, size_t memory_length, uint32_t channel, uin
                     uint32_t *count);
 
 /* The frame to send next, as a record, to the start of a buffer of at least R bytes; the bytes behind it stay. It is in flight until it is sent,
- * and as long take gives it again. Else, on channels 1 to 4, the lowest-numbered pending periodic is taken, else the oldest written record. On
+ * and as long take gives it again. Else, on channels 1 to 4, the lowest-numbered pending periodic is taken, else the next telegram of the TP2.0
+ * connection, if one may go, else the oldest written record. On
  * channels 5 to 8: else the flow frame that a partner waits for, that of filter 1 first; else the next frame of the message under way, if the
  * partner lets it go and the pause that it asked for is over; else, where none is under way, the first frame of the oldest written message, if its
  * conversation is free.
@@ -431,13 +456,14 @@ uint32_t trawl_read(uint8_t *memory, size_t memory_length, uint32_t channel, uin
 uint32_t trawl_take(uint8_t *memory, size_t memory_length, uint32_t channel, uint8_t *buffer, size_t buffer_length);
 
 /* The frame in flight is on the line: the flight is empty. On channels 1 to 4, with loopback on, its echo is queued for reading, with the clock as
- * its timestamp, past all filters. On channels 5 to 8 the message goes on; with its last frame TxDone is queued, and with loopback on the message
- * as its echo behind it. Where 32 records (8) wait a record is lost, the lost mark is set, and 0x00 is the answer all the same.
+ * its timestamp, past all filters; of a TP2.0 telegram its connection's times run from now. On channels 5 to 8 the message goes on; with its last
+ * frame TxDone is queued, and with loopback on the message as its echo behind it. Where 32 records (8) wait a record is lost, the lost mark is set,
+ * and 0x00 is the answer all the same.
  * Codes: 0x1A; 0x02; 0x07 nothing in flight. */
 uint32_t trawl_sent(uint8_t *memory, size_t memory_length, uint32_t channel);
 
-/* Empties one of four things, TRAWL_CLEAR_WRITTEN and so on; none of them touches the flight. On channels 5 to 8 the filters go with what is being
- * received and sent on them; the other three leave that.
+/* Empties one of four things, TRAWL_CLEAR_WRITTEN and so on; none of them touches the flight or a TP2.0 connection. On channels 5 to 8 the filters
+ * go with what is being received and sent on them; the other three leave that.
  * Codes: 0x1A; 0x02; 0x0F kind not 1 to 4. */
 uint32_t trawl_clear(uint8_t *memory, size_t memory_length, uint32_t channel, uint32_t kind);
 
@@ -470,6 +496,32 @@ uint32_t trawl_set_list(uint8_t *memory, size_t memory_length, uint32_t channel,
  * written. With no pairs the answer is 0x00.
  * Codes: 0x1A; 0x02; 0x04 more than 16 pairs, and none is written; then for each pair 0x01 another parameter. */
 uint32_t trawl_get_list(uint8_t *memory, size_t memory_length, uint32_t channel, struct trawl_pair *pairs, size_t count);
+
+/* Opens a TP2.0 connection on channels 1 to 4: the set-up telegram waits at take. own is the box's identifier, 0x200 to 0x2EF; destination the
+ * module's address, 0x00 to 0xEF; rx_id the identifier that the module is to send with, 0 to 0x7FF; application 0x01, 0x10, 0x20 or 0x21; block_size
+ * 1 to 15; t1 and t3 time bytes (trawl_time), 0 to 255: how long the box waits for an acknowledgement, 0xFF for ever, and how far apart the module is
+ * to send. J2819 wants t1 above four times t3; the box doesn't look at that.
+ * Codes: 0x1A; 0x02 channel not 1 to 4, or not open; 0x0A the channel doesn't take narrow frames, or another field; 0x14 a connection is there: it
+ * opens, stands, or its disconnect telegram is not yet sent. */
+uint32_t trawl_link_open(uint8_t *memory, size_t memory_length, uint32_t channel, uint32_t own, uint32_t destination, uint32_t rx_id,
+                         uint32_t application, uint32_t block_size, uint32_t t1, uint32_t t3);
+
+/* Sends a message over the connection that stands; all of what is lent, 1 to 512 bytes, which are copied. It is under way until its last telegram is
+ * acknowledged, and then another may be sent.
+ * Codes: 0x1A; 0x02; 0x0A the channel doesn't take narrow frames; 0x07 no connection stands; 0x0A 0 bytes, or more than 512; 0x11 a message is
+ * under way. */
+uint32_t trawl_link_send(uint8_t *memory, size_t memory_length, uint32_t channel, const uint8_t *message, size_t message_length);
+
+/* Moves the complete message that was received to the start of a buffer of at least 512 bytes; the bytes behind it stay. Gives its length, 1 to 512.
+ * Codes: 0x1A; 0x02; 0x04 under 512 bytes, whatever waits; 0x0A the channel doesn't take narrow frames; 0x07 no connection stands; 0x10 it stands,
+ * and no message is complete. */
+uint32_t trawl_link_receive(uint8_t *memory, size_t memory_length, uint32_t channel, uint8_t *buffer, size_t buffer_length,
+                            uint32_t *length);
+
+/* Ends the connection. While the set-up has no reply it is gone at once; later what was to be sent is dropped, and the disconnect telegram waits at
+ * take.
+ * Codes: 0x1A; 0x02; 0x0A the channel doesn't take narrow frames; 0x07 no connection, or its disconnect telegram waits already. */
+uint32_t trawl_link_end(uint8_t *memory, size_t memory_length, uint32_t channel);
 
 /* The last code of a channel: of the last call on it that was not answered 0x00, or 0 where all were since it was connected. It is what
  * PassThruGetLastError asks for, of one channel and as a number.

@@ -1,6 +1,6 @@
 /* The core against the twin in one run: nanoseconds a call, best of many, and the ratio. `bench [RUNS]`. Devices: idle (four raw channels, nothing
- * else), typical (three filters, three records, two periodics and two written records a raw channel), full, and both (typical, and the four ISO 15765
- * channels with two conversations each under way). */
+ * else), typical (three filters, three records, two periodics and two written records a raw channel), full, both (typical, and the four ISO 15765
+ * channels with two conversations each under way), and linked (idle, and on each raw channel a TP2.0 connection that stands). */
 #define _POSIX_C_SOURCE 199309L
 #include <stdio.h>
 #include <stdlib.h>
@@ -12,7 +12,8 @@
 #include "../twin/twin.h"
 
 enum { MEMORY = TRAWL_MEMORY, LONGEST = 32768, WHOLE = TWIN_REPLAY_ROOM(LONGEST) + TRAWL_EVENT_ROOM, FOUR_LINES = 42600 };
-enum { ISO_RECORD = 536, PAYLOAD = 508, FRAMES = 73, THEIRS = 0x641, OURS = 0x241 }; /* of a message of 508 bytes; the identifiers of a conversation */
+enum { PAYLOAD = 508, FRAMES = 73, THEIRS = 0x641, OURS = 0x241 }; /* of a message of 508 bytes; the identifiers of a conversation */
+enum { TELEGRAMS = 74, MODULE = 0x300 };                            /* of a message of 512 bytes; the identifier that a TP2.0 module sends with */
 
 static uint8_t buffer[64 * 36], message[36], text[ISO_RECORD], data8[8] = {3, 0x7F, 0x10, 0x78, 0, 0, 0, 0};
 static const uint8_t go_on[3] = {0x30, 0, 0};
@@ -94,6 +95,16 @@ static void go_ahead(uint8_t *m) {
         twin_write(m, MEMORY, line + 5, 1, other, ISO_RECORD, &v);
         for (int k = 0; k < 2; k++) twin_take(m, MEMORY, line + 5, buffer, sizeof buffer), twin_sent(m, MEMORY, line + 5);
         twin_frame(m, MEMORY, line, 0, THEIRS + 1, go_on, sizeof go_on);
+    }
+}
+
+/* a TP2.0 connection that stands on each raw channel: block size 15, no T1, no T3 */
+static void connections(uint8_t *m) {
+    static const uint8_t reply[7] = {0x00, 0xD0, 0x00, 0x03, 0x40, 0x07, 0x01}, joined[6] = {0xA1, 0x0F, 0x8A, 0xFF, 0x00, 0xFF};
+    for (uint32_t line = 0; line < 4; line++) {
+        twin_link_open(m, MEMORY, line + 1, 0x200, 0x01, MODULE, 0x01, 15, 0xFF, 0x00);
+        twin_frame(m, MEMORY, line, 0, 0x201, reply, sizeof reply);
+        twin_frame(m, MEMORY, line, 0, MODULE, joined, sizeof joined);
     }
 }
 
@@ -197,6 +208,20 @@ static void eight(const uint8_t *idle) {
     row("advance", core_advance, twin_run_advance, both, 0);
     row("message of 508, received", core_message_in, twin_run_message_in, quiet, FRAMES);
     row("message of 508, sent", core_message_out, twin_run_message_out, quiet, FRAMES);
+}
+
+static void tp20(const uint8_t *idle) {
+    static uint8_t linked[MEMORY];
+    memcpy(linked, idle, MEMORY), connections(linked);
+    printf("\nTP2.0 connections: ns a call   core     twin    ratio   (validating)\n");
+    row("valid, four stand", core_valid, (loop)twin_run_valid, linked, 0);
+    row("frame, nobody's", core_frame_out, twin_run_frame_out, linked, 0);
+    row("advance, four stand", core_advance, twin_run_advance, linked, 0);
+    row("take, idle", core_take_none, twin_run_take_none, linked, 0);
+    row("take, no connection", core_take_none, twin_run_take_none, idle, 0);
+    row("open and end", core_link_open_end, twin_run_link_open_end, idle, 0);
+    row("message of 512, received", core_link_in, twin_run_link_in, linked, TELEGRAMS);
+    row("message of 512, sent", core_link_out, twin_run_link_out, linked, TELEGRAMS);
 }
 
 static void growth(void) {
@@ -348,6 +373,7 @@ int main(int argc, char **argv) {
     device(idle, 0, 0, 0, 0), device(typical, 3, 3, 2, 2), device(full, 10, 32, 10, 16);
     calls("idle", idle), calls("typical", typical), calls("full", full);
     eight(idle);
+    tp20(idle);
     growth();
     printf("\nreplayed, inner calls: ns an event  core   twin    ratio\n");
     inner("frames and reads, 3 filters", frames, 6, 3);

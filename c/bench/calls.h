@@ -168,3 +168,47 @@ static unsigned SIDE(message_out)(uint8_t *m) {
     keep(CALL(read)(m, MEMORY, 5, 1, buffer, sizeof buffer, &v) + v);
     return 1;
 }
+
+/* ---- TP2.0 ---- */
+
+/* nothing to send: the connection is looked at and passed over */
+static unsigned SIDE(take_none)(uint8_t *m) {
+    for (uint32_t i = 0; i < 16; i++) keep(CALL(take)(m, MEMORY, 1 + (i & 3), buffer, sizeof buffer));
+    return 16;
+}
+
+static unsigned SIDE(link_open_end)(uint8_t *m) {
+    for (uint32_t i = 0; i < 8; i++) {
+        keep(CALL(link_open)(m, MEMORY, 1 + (i & 3), 0x200, 0x01, MODULE, 0x01, 15, 0xFF, 0x00));
+        keep(CALL(link_end)(m, MEMORY, 1 + (i & 3)));
+    }
+    return 16;
+}
+
+/* a message of 512 bytes comes to channel 1 in 74 telegrams, every fifteenth of which is acknowledged, and is fetched: one call here is the whole */
+static unsigned SIDE(link_in)(uint8_t *m) {
+    uint8_t b[8] = {0};
+    uint32_t v;
+    for (uint32_t k = 0; k < TELEGRAMS; k++) {
+        int last = k + 1 == TELEGRAMS, asks = last || k % 15 == 14;
+        b[0] = (uint8_t)((asks ? 0 : 0x20) | (last ? 0x10 : 0) | k % 16);
+        keep(CALL(frame)(m, MEMORY, 0, 0, MODULE, b, last ? 2 : 8));
+        if (!asks) continue;
+        keep(CALL(take)(m, MEMORY, 1, buffer, sizeof buffer));
+        keep(CALL(sent)(m, MEMORY, 1));
+    }
+    keep(CALL(link_receive)(m, MEMORY, 1, buffer, sizeof buffer, &v) + v);
+    return 1;
+}
+
+/* one goes, and the module acknowledges every fifteenth telegram and the last */
+static unsigned SIDE(link_out)(uint8_t *m) {
+    keep(CALL(link_send)(m, MEMORY, 1, text, LINK_MESSAGE));
+    for (uint32_t k = 0; k < TELEGRAMS; k++) {
+        uint8_t acknowledge = (uint8_t)(0xB0 | (k + 1) % 16);
+        keep(CALL(take)(m, MEMORY, 1, buffer, sizeof buffer));
+        keep(CALL(sent)(m, MEMORY, 1));
+        if (k % 15 == 14 || k + 1 == TELEGRAMS) keep(CALL(frame)(m, MEMORY, 0, 0, MODULE, &acknowledge, 1));
+    }
+    return 1;
+}

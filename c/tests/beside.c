@@ -20,7 +20,7 @@ SAME(ERR_INVALID_TIME_INTERVAL); SAME(ERR_EXCEEDED_LIMIT); SAME(ERR_INVALID_MSG_
 SAME(ERR_BUFFER_FULL); SAME(ERR_BUFFER_OVERFLOW); SAME(ERR_PIN_INVALID); SAME(ERR_CHANNEL_IN_USE); SAME(ERR_MSG_PROTOCOL_ID);
 SAME(ERR_INVALID_FILTER_ID); SAME(ERR_NO_FLOW_CONTROL); SAME(ERR_NOT_UNIQUE); SAME(ERR_INVALID_BAUDRATE); SAME(ERR_INVALID_DEVICE_ID);
 SAME(CLEAR_TX_BUFFER); SAME(CLEAR_RX_BUFFER); SAME(CLEAR_PERIODIC_MSGS); SAME(CLEAR_MSG_FILTERS);
-typedef char version_is_there[TRAWL_VERSION >= 50000 ? 1 : -1];
+typedef char version_is_there[TRAWL_VERSION >= 60000 ? 1 : -1];
 
 /* what a box's DLL does between the two: a record that was read becomes J2534-1's message, a message becomes a record to write; of 36 bytes, or of
  * 536 where the protocol is ISO 15765 */
@@ -80,6 +80,20 @@ int iso_message(uint8_t *memory, size_t length) {
     return message.RxStatus == TX_MSG_TYPE && message.DataSize == 7 && message.Data[6] == 0x0D ? 0 : 27;
 }
 
+/* a TP2.0 connection begins to open: its set-up telegram; 0, or where it went wrong */
+int link_begins(uint8_t *memory, size_t length, uint32_t channel);
+int link_begins(uint8_t *memory, size_t length, uint32_t channel) {
+    static uint8_t record[TRAWL_RECORD], message[TRAWL_LINK_MESSAGE];
+    uint32_t count;
+    if (trawl_link_open(memory, length, channel, 0x200, 0x01, 0x300, 0x01, 15, 0x8A, 0x00) != STATUS_NOERROR) return 30;
+    if (trawl_link_open(memory, length, channel, 0x200, 0x01, 0x300, 0x01, 15, 0x8A, 0x00) != ERR_CHANNEL_IN_USE) return 31;
+    if (trawl_link_send(memory, length, channel, message, 1) != ERR_FAILED) return 32;
+    if (trawl_link_receive(memory, length, channel, message, sizeof message, &count) != ERR_FAILED || count != 0) return 33;
+    if (trawl_take(memory, length, channel, record, sizeof record) != STATUS_NOERROR || trawl_record_identifier(record) != 0x200) return 34;
+    if (trawl_record_data_size(record) != 7 || trawl_record_data(record)[1] != TRAWL_SET_UP) return 35;
+    return trawl_link_end(memory, length, channel) == STATUS_NOERROR ? 0 : 36;
+}
+
 /* the file is a program, so that C++ links the calls too */
 int main(void) {
     static uint8_t box[TRAWL_MEMORY], record[TRAWL_RECORD];
@@ -108,5 +122,9 @@ int main(void) {
     if (trawl_clear(box, sizeof box, channel, trawl_clear_kind(CLEAR_RX_BUFFER)) != STATUS_NOERROR) return 9;
     if (trawl_clear(box, sizeof box, channel, CLEAR_RX_BUFFER) != ERR_INVALID_IOCTL_ID) return 10;
     if (trawl_last_error(box, sizeof box, channel, &last) != STATUS_NOERROR || last != ERR_INVALID_IOCTL_ID) return 11;
-    return iso_message(box, sizeof box);
+    /* it takes wide frames alone */
+    if (trawl_link_open(box, sizeof box, channel, 0x200, 0x01, 0x300, 0x01, 15, 0x8A, 0x00) != ERR_INVALID_MSG) return 14;
+    if (trawl_connect(box, sizeof box, 0, CAN, CAN_ID_BOTH, 500000, &channel) != STATUS_NOERROR) return 15;
+    count = (uint32_t)link_begins(box, sizeof box, channel);
+    return count ? (int)count : iso_message(box, sizeof box);
 }

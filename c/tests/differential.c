@@ -129,47 +129,6 @@ static void power_on(void) {
     memset(last, 0, sizeof last);
 }
 
-/* ---- random sequences on eight channels ---- */
-
-/* a memory kept from before: this channel, if it is open, has the rate that no call takes any more */
-static void old_rate(uint32_t channel) {
-    if (!is_open(core, channel)) return;
-    trawl_store32(core + region_of(channel) + RATE, 125000);
-    memcpy(twin, core, TRAWL_MEMORY);
-    if (!trawl_valid(core, TRAWL_MEMORY)) fail("a memory that holds 125,000 is not valid", NULL, channel);
-    olds++;
-}
-
-static void sequences(uint32_t rounds) {
-    static event e;
-    for (uint32_t r = 0; r < rounds; r++) {
-        int damage = (int)(r % 4) * 8;
-        power_on();
-        for (uint32_t k = 0; k < CHANNELS; k++) {
-            connect_event(&e, k % 4, k < 4 ? 5 : 6, (uint32_t[]){0, 0x100, 0x800, 0x900}[(k + r) % 4], 500000);
-            if (chance(80)) both(&e, r);
-        }
-        for (uint32_t i = 0; i < EVENTS; i++) {
-            if (r % 2 && i % 100 == 0) old_rate(1 + below(CHANNELS));
-            random_event(&e, damage);
-            both(&e, (uint64_t)r * EVENTS + i);
-        }
-        if (!trawl_valid(core, TRAWL_MEMORY)) fail("a reached memory is not valid", NULL, r);
-    }
-}
-
-/* a box in which everything is held somewhere */
-static void busy(void) {
-    static event e;
-    power_on();
-    for (uint32_t i = 0; i < 6000; i++) {
-        random_event(&e, 2);
-        if (e.kind == CLOSE || e.kind == DISCONNECT || (e.kind == CLEAR && chance(80))) continue;
-        if ((e.kind == READ || e.kind == SENT || e.kind == STOP_FILTER || e.kind == STOP_PERIODIC) && chance(70)) continue;
-        both(&e, i);
-    }
-}
-
 /* ---- conversations under way ---- */
 
 static void act(int kind, uint32_t channel, uint32_t number, size_t lends) {
@@ -221,6 +180,87 @@ static void converse(void) {
     }
 }
 
+/* ---- connections in each of their states ---- */
+
+static void links(uint32_t channel, int kind, size_t n) {
+    static event e;
+    connect_event(&e, 0, 0, 0, 0);
+    e.kind = kind, e.a = channel;
+    lend(&e.first, n);
+    if (both(&e, channel).code != 0) fail("a connection's call", &e, channel);
+}
+
+static void module_says(uint32_t channel, uint32_t identifier, const char *data, size_t n) { says(channel + 4, identifier, data, n); }
+
+/* the frame that waits goes out */
+static void goes(uint32_t channel) { act(TAKE, channel, 0, TRAWL_RECORD), act(SENT, channel, 0, 0); }
+
+/* channels 1 to 4 anew: the first `how` of five steps of a connection are made, each on another channel */
+static void connections(uint32_t from) {
+    static event e;
+    for (uint32_t channel = 1; channel <= 4; channel++) {
+        uint32_t how = (channel + from) % 6;
+        act(DISCONNECT, channel, 0, 0);
+        connect_event(&e, channel - 1, 5, channel % 2 * 0x800, 500000), both(&e, channel);
+        link_event(&e, channel, 3 + channel, 0x8A, 0x32);
+        if (both(&e, channel).code != 0) fail("an opening", &e, channel);
+        if (how == 0) continue; /* opens */
+        goes(channel), module_says(channel, 0x201, "\0\xD0\0\3\x40\7\1", 7);
+        if (how == 1) continue; /* connects */
+        goes(channel), module_says(channel, 0x300, "\xA1\3\x8A\xFF\x32\xFF", 6);
+        if (how == 2) continue; /* stands, and nothing else */
+        links(channel, LINK_SEND, 400);
+        for (int k = 0; k < 3; k++) goes(channel), act(ADVANCE, 5000, 0, 0);
+        module_says(channel, 0x300, "\x20\1\2\3\4\5\6\7", 8), module_says(channel, 0x300, "\xA3", 1), module_says(channel, 0x300, "\1\1\2", 3);
+        if (how == 3) continue; /* T1 runs, and an answer and an acknowledge wait */
+        module_says(channel, 0x300, "\x93", 1), module_says(channel, 0x300, "\x32\1", 2);
+        act(TAKE, channel, 0, TRAWL_RECORD); /* a complete message, T_Wait, a telegram in flight */
+        if (how == 5) links(channel, LINK_END, 0);
+    }
+}
+
+/* ---- random sequences on eight channels ---- */
+
+/* a memory kept from before: this channel, if it is open, has the rate that no call takes any more */
+static void old_rate(uint32_t channel) {
+    if (!is_open(core, channel)) return;
+    trawl_store32(core + region_of(channel) + RATE, 125000);
+    memcpy(twin, core, TRAWL_MEMORY);
+    if (!trawl_valid(core, TRAWL_MEMORY)) fail("a memory that holds 125,000 is not valid", NULL, channel);
+    olds++;
+}
+
+static void sequences(uint32_t rounds) {
+    static event e;
+    for (uint32_t r = 0; r < rounds; r++) {
+        int damage = (int)(r % 4) * 8;
+        power_on();
+        for (uint32_t k = 0; k < CHANNELS; k++) {
+            connect_event(&e, k % 4, k < 4 ? 5 : 6, (uint32_t[]){0, 0x100, 0x800, 0x900}[(k + r) % 4], 500000);
+            if (chance(80)) both(&e, r);
+        }
+        if (r % 3 == 0) connections(r);
+        for (uint32_t i = 0; i < EVENTS; i++) {
+            if (r % 2 && i % 100 == 0) old_rate(1 + below(CHANNELS));
+            random_event(&e, damage);
+            both(&e, (uint64_t)r * EVENTS + i);
+        }
+        if (!trawl_valid(core, TRAWL_MEMORY)) fail("a reached memory is not valid", NULL, r);
+    }
+}
+
+/* a box in which everything is held somewhere */
+static void busy(void) {
+    static event e;
+    power_on();
+    for (uint32_t i = 0; i < 6000; i++) {
+        random_event(&e, 2);
+        if (e.kind == CLOSE || e.kind == DISCONNECT || (e.kind == CLEAR && chance(80))) continue;
+        if ((e.kind == READ || e.kind == SENT || e.kind == STOP_FILTER || e.kind == STOP_PERIODIC) && chance(70)) continue;
+        both(&e, i);
+    }
+}
+
 /* ---- damaged memories ---- */
 
 static void same_verdict(size_t length, const char *what, uint64_t turn) {
@@ -255,8 +295,9 @@ static void each_byte(void) {
 static void each_limit(void) {
     static const uint32_t limits[] = {0,     1,     3,     4,      5,      12,     13,   0x100, 0x101,    0x7FF,   0x800,
                                       0x900, 65535, 65536, 125000, 250000, 500000, 5000, 5001,  65535000, 65535001};
+    size_t end = region_size(1) - 4;
     for (uint32_t channel = 1; channel <= 4; channel++)
-        for (size_t at = 1; at + 4 <= region_size(channel); at += at < 320 || at >= 360 ? 1 : 4) {
+        for (size_t at = 1; at <= end && at < LINK_AT; at += at < 320 || at >= 360 ? 1 : 4) {
             uint8_t *p = core + region_of(channel) + at, was[4];
             memcpy(was, p, 4);
             for (size_t k = 0; k < sizeof limits / sizeof *limits; k++) {
@@ -264,6 +305,24 @@ static void each_limit(void) {
                 if (at >= 320 && at < 360) v = 1000 * ((uint32_t)p[-40] | (uint32_t)p[-39] << 8) + (uint32_t)k - 2; /* about its interval */
                 p[0] = (uint8_t)v, p[1] = (uint8_t)(v >> 8), p[2] = (uint8_t)(v >> 16), p[3] = (uint8_t)(v >> 24);
                 same_verdict(TRAWL_MEMORY, "verdict on a number at its limit", at);
+            }
+            memcpy(p, was, 4);
+        }
+}
+
+/* the same in their connections: identifiers, times, counts, sizes; of its two messages the first bytes and the last */
+static void each_link_limit(void) {
+    static const uint32_t limits[] = {0, 1, 2, 3, 5, 6, 7, 10, 11, 15, 16, 255, 256, 512, 513, 0x1FF, 0x200, 0x2EF, 0x2F0, 0x7FF, 0x800,
+                                      5000, 5001, 100000, 100001, 1000000, 1000001, 6300000, 6300001};
+    for (uint32_t channel = 1; channel <= 4; channel++)
+        for (size_t at = 0; at + 4 <= LINK_PART; at += (at > 64 && at < 560) || (at > 583 && at < 1080) ? 31 : 1) {
+            uint8_t *p = core + region_of(channel) + LINK_AT + at, was[4];
+            memcpy(was, p, 4);
+            for (size_t k = 0; k < sizeof limits / sizeof *limits; k++) {
+                trawl_store32(p, limits[k]);
+                same_verdict(TRAWL_MEMORY, "verdict on a number at its limit, connections", at);
+                p[0] = (uint8_t)limits[k], memcpy(p + 1, was + 1, 3);
+                same_verdict(TRAWL_MEMORY, "verdict on a byte at its limit, connections", at);
             }
             memcpy(p, was, 4);
         }
@@ -337,8 +396,12 @@ static void damaged(uint32_t rounds) {
     for (uint32_t r = 0; r < rounds; r++) {
         busy();
         converse();
+        connections(r);
         each_byte();
         each_limit();
+        each_link_limit();
+        connections(r + 3);
+        each_link_limit();
         each_iso_limit();
         each_last();
         several_bytes();
@@ -355,9 +418,10 @@ static void damaged(uint32_t rounds) {
 static void short_buffers(void) {
     static event e;
     busy();
+    connections(1);
     for (int kind = START_FILTER; kind <= KINDS; kind++)
-        for (uint32_t n = 0; n <= 2 * TRAWL_ISO_RECORD + 1; n += n < 80 || n % TRAWL_ISO_RECORD > TRAWL_ISO_RECORD - 3 ? 1 : 23) {
-            if (kind > TAKE && kind != START_FLOW) continue;
+        for (uint32_t n = 0; n <= 2 * TRAWL_ISO_RECORD + 1; n += n < 80 || n % TRAWL_ISO_RECORD > TRAWL_ISO_RECORD - 30 ? 1 : 23) {
+            if (kind > TAKE && kind != START_FLOW && kind != LINK_SEND && kind != LINK_RECEIVE) continue;
             for (uint32_t channel = 0; channel <= CHANNELS + 1; channel++) {
                 connect_event(&e, 0, 0, 0, 0);
                 e.kind = kind, e.a = channel, e.b = kind == START_FILTER ? 1 : kind == START_FLOW ? 3 : kind == START_PERIODIC ? 5 : n % 4;
@@ -406,7 +470,21 @@ static uint32_t concerned(const event *e) {
     if (e->kind == ADVANCE || e->kind == CLOSE) return 0x1FE;
     if (e->kind == FRAME) return e->a > 3 ? 0 : 0x22u << e->a;
     if (e->kind == CONNECT) return connects(e) ? 1u << connects(e) : 0;
+    if (is_link(e->kind) && is_iso(e->a)) return 0;
     return is_channel(e->a) ? 1u << e->a : 0;
+}
+
+/* the first events of a sequence: channels 1 to 4 with a connection that stands */
+static void opening(event *e, uint32_t i) {
+    static const char *const replies[2] = {"\0\xD0\0\3\x40\7\1", "\xA1\3\x8A\xFF\x32\xFF"};
+    uint32_t line = i % 4, step = i / 4;
+    if (step == 0) connect_event(e, line, 5, 0x800, 500000);
+    if (step == 1) link_event(e, line + 1, 5, 0x8A, 0x32);
+    if (step < 2) return;
+    connect_event(e, line, 0, step == 2 ? 0x201 : 0x300, 0);
+    e->kind = FRAME;
+    lend(&e->first, step == 2 ? 7 : 6);
+    memcpy(bytes(&e->first), replies[step - 2], e->first.n);
 }
 
 static void isolation(uint32_t rounds) {
@@ -418,6 +496,7 @@ static void isolation(uint32_t rounds) {
         memset(core, 0, TRAWL_MEMORY);
         for (int i = 0; i < EVENTS; i++) {
             random_event(&es[i], 5);
+            if (r % 2 && i < 16) opening(&es[i], (uint32_t)i);
             e = es[i];
             rs[i] = on_core(core, TRAWL_MEMORY, &e);
             buffers[i] = e.first;

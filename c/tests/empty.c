@@ -51,6 +51,24 @@ static void conversations(void) {
     must(trawl_disconnect(box, sizeof box, 5) == 0, "disconnect");
 }
 
+/* and those of a TP2.0 connection: a message of no bytes is none, a buffer of none is too short */
+static void connections(void) {
+    uint32_t v;
+    NOTED(0x07, 77, trawl_link_send(box, sizeof box, 1, NULL, 0), v);
+    NOTED(0x04, 0, trawl_link_receive(box, sizeof box, 1, NULL, 0, &v), v);
+    STAYS(0x02, 77, trawl_link_send(box, sizeof box, 2, NULL, 0), v);
+    STAYS(0x02, 0, trawl_link_receive(box, sizeof box, 2, NULL, 0, &v), v);
+    must(trawl_link_open(box, sizeof box, 1, 0x200, 0x01, 0x300, 0x01, 15, 0x8A, 0x00) == 0, "opening");
+    STAYS(0x00, 77, trawl_frame(box, sizeof box, 0, 0, 0x201, NULL, 0), v); /* a frame without data is no reply */
+    must(trawl_frame(box, sizeof box, 0, 0, 0x201, (const uint8_t *)"\0\xD0\0\3\x40\7\1", 7) == 0, "reply");
+    STAYS(0x00, 77, trawl_frame(box, sizeof box, 0, 0, 0x300, NULL, 0), v); /* and no telegram */
+    must(trawl_frame(box, sizeof box, 0, 0, 0x300, (const uint8_t *)"\xA1\x0F\x8A\xFF\0\xFF", 6) == 0, "acknowledge of connection");
+    STAYS(0x00, 77, trawl_frame(box, sizeof box, 0, 0, 0x300, NULL, 0), v);
+    NOTED(0x0A, 77, trawl_link_send(box, sizeof box, 1, NULL, 0), v);
+    NOTED(0x04, 0, trawl_link_receive(box, sizeof box, 1, NULL, 0, &v), v);
+    must(trawl_frame(box, sizeof box, 0, 0, 0x300, (const uint8_t *)"\xA8", 1) == 0, "disconnect");
+}
+
 int main(void) {
     static uint8_t record[TRAWL_RECORD], mask[TRAWL_RECORD], telegram[TRAWL_TELEGRAM], room[TRAWL_EVENT_ROOM];
     uint32_t v;
@@ -78,6 +96,10 @@ int main(void) {
     NONE_ALONE(trawl_set_list(NULL, 0, 1, NULL, 0));
     NONE_ALONE(trawl_get_list(NULL, 0, 1, NULL, 0));
     NONE(trawl_last_error(NULL, 0, 1, &v), v);
+    NONE_ALONE(trawl_link_open(NULL, 0, 1, 0x200, 0x01, 0x300, 0x01, 15, 0x8A, 0x00));
+    NONE_ALONE(trawl_link_send(NULL, 0, 1, NULL, 0));
+    NONE(trawl_link_receive(NULL, 0, 1, NULL, 0, &v), v);
+    NONE_ALONE(trawl_link_end(NULL, 0, 1));
 
     must(trawl_power_on(box, sizeof box) == 0 && trawl_connect(box, sizeof box, 0, 5, 0, 500000, &v) == 0, "connect");
     trawl_record_make(record, 0, 0, NULL, 0);
@@ -97,6 +119,7 @@ int main(void) {
     STAYS(0x13, 77, trawl_frame(box, sizeof box, 4, 0, 0, NULL, 0), v);
     STAYS(0x00, 77, trawl_frame(box, sizeof box, 0, 0, 0x7E8, NULL, 0), v); /* no filter lets nothing in */
     conversations();
+    connections();
 
     /* a frame without data: a filter of twelve bytes doesn't match it, one of four does */
     trawl_record_make(mask, 0, 0x7FF, (const uint8_t *)"\xFF\xFF\xFF\xFF\xFF\xFF\xFF\xFF", 8);

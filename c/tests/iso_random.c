@@ -1,80 +1,19 @@
-/* Random calls, frames and advances on a box with ISO 15765 channels: `iso_random [SEED [ROUNDS]]`. Every side there is plays the same; all must give
- * the same codes, numbers, buffers and memory. A refusal changes nothing but the last code of its channel, a call nothing of another channel, and
- * the memory stays valid: also where it was made at random and not reached. Everything is repeatable. */
+/* Random calls, frames and advances on a box with ISO 15765 channels: `iso_random [SEED [ROUNDS]]`. Every side there is plays the same, and what must
+ * hold of any event (sides_play.h) is looked at: also where the memory was made at random and not reached. Everything is repeatable. */
 #include <stdio.h>
 #include <stdlib.h>
 #include <string.h>
 
 #include "iso_side.h"
 #include "random.h"
+#include "sides_play.h"
 
-enum { GUARD = 16, ROOM = 10 * RECORD, SIDES = 2 };
-enum { CONNECT = 1, DISCONNECT, CLOSE, ADVANCE, FRAME, START_FILTER, STOP_FILTER, START_PERIODIC, STOP_PERIODIC, WRITE, READ, TAKE, SENT, CLEAR,
-       GET, SET, SET_LIST, GET_LIST, LAST_ERROR, KINDS = LAST_ERROR };
-
-/* a lent buffer between guards */
-typedef struct {
-    uint8_t room[GUARD + ROOM + GUARD];
-    size_t n;
-} lent;
-
-typedef struct {
-    int kind;
-    uint32_t a, b, c, d; /* its numbers; a is the line or the channel */
-    lent first, second, third;
-    struct twin_pair pairs[PAIRS_MOST];
-    size_t count;
-} event;
-
-typedef struct {
-    uint32_t code, value;
-} reply;
-
-static uint8_t memories[SIDES][GUARD + BOX_MOST + GUARD], *const mine = memories[0] + GUARD; /* that of the first side */
-static const side *on;                                                                      /* the first side */
-static unsigned long counted[KINDS + 1][0x20], turn, made, spoilt;
-static const event *playing;
 static uint32_t busy; /* the line where most of it happens */
-
-static void fail(const char *what, const side *s) {
-    fprintf(stderr, "iso_random: %s: %s, turn %lu", s->name, what, turn);
-    if (playing)
-        fprintf(stderr, ", event %d (%u, %u, %u, %u), lent %u, %u, %u", playing->kind, (unsigned)playing->a, (unsigned)playing->b,
-                (unsigned)playing->c, (unsigned)playing->d, (unsigned)playing->first.n, (unsigned)playing->second.n, (unsigned)playing->third.n);
-    fprintf(stderr, "\n");
-    exit(1);
-}
-
-/* ---- lent buffers ---- */
-
-static uint8_t *bytes(lent *b) { return b->room + GUARD; }
-
-static void lend(lent *b, size_t n) {
-    memset(b, 0xC3, sizeof *b);
-    b->n = n < ROOM ? n : ROOM;
-    for (size_t i = 0; i < b->n; i++) bytes(b)[i] = (uint8_t)any();
-}
-
-static int guarded(const uint8_t *room, size_t n) {
-    for (size_t i = 0; i < GUARD; i++)
-        if (room[i] != 0xC3 || room[GUARD + n + i] != 0xC3) return 0;
-    return 1;
-}
 
 /* ---- where things lie in the region of a channel ---- */
 
 enum { TALK = 10, TALK_SIZE = 540, TAKEN = 0, PATTERN = 2, FLOW = 6, KIND = 10, N = 11, TIME = 15, LEFT = 19, GAP = 23, ASKED = 27, COUNT = 28,
        PAYLOAD = 32, OUT = 1090, FLYING = 3235, OWNER = 3236, FLIGHT = 3237, IN = 3773, LOST = 8062, LAST = 8063 };
-
-static int is_iso(uint32_t channel) { return channel >= 5 && channel <= 8; }
-
-static size_t raw_size(void) { return (on->regions - 4) / 4; }
-
-/* the region of channel 1 to 8, and its size */
-static size_t region(uint32_t channel) {
-    return channel <= 4 ? 4 + (channel - 1) * raw_size() : on->regions + (channel - 5) * on->region;
-}
-static size_t size_of(uint32_t channel) { return channel <= 4 ? raw_size() : on->region; }
 
 static uint8_t *talk(uint32_t channel, uint32_t i) { return mine + region(channel) + TALK + i * TALK_SIZE; }
 
@@ -84,13 +23,6 @@ static const uint32_t narrow[] = {0x241, 0x242, 0x243, 0x641, 0x642, 0x643, 0, 0
 static const uint32_t wide_ids[] = {0x241, 0x641, 0x18DAF110, 0x18DA10F1, 0, 0x1FFFFFFF};
 
 static uint32_t some_id(uint32_t tx) { return tx & 0x100 ? one_of(wide_ids, 6) : one_of(narrow, 8); }
-
-static uint32_t off(uint32_t good, uint32_t damage) {
-    if (!chance(damage)) return good;
-    return ONE_OF(0, 1, 2, 3, 4, 5, 6, 8, 9, 255, 256, 257, 261, 65536, 1000000, 1000001, 0x7FFFFFFF, 0xFFFFFFFF, any());
-}
-
-static size_t some_length(size_t good, uint32_t damage) { return chance(damage) ? below((uint32_t)good + 2) : good + (chance(20) ? below(40) : 0); }
 
 /* a record for sending, of these channels or of a raw one */
 static void some_message(uint8_t *p, uint32_t channel, uint32_t damage) {
@@ -157,11 +89,9 @@ static void some_event(event *e, uint32_t damage) {
                                      SET_LIST, GET_LIST, LAST_ERROR, START_PERIODIC, STOP_PERIODIC, DISCONNECT};
     uint32_t n = below(4);
     size_t size;
-    memset(e, 0, sizeof *e);
-    e->kind = (int)one_of(often, sizeof often / sizeof *often);
+    blank(e, (int)one_of(often, sizeof often / sizeof *often), 0);
     if (e->kind == DISCONNECT && chance(92)) e->kind = chance(3) ? CLOSE : FRAME;
     if ((e->kind == STOP_FILTER || e->kind == CLEAR) && chance(85)) e->kind = TAKE;
-    lend(&e->first, 0), lend(&e->second, 0), lend(&e->third, 0);
     e->a = off(chance(70) ? 5 + busy : 1 + below(8), damage / 4);
     size = is_iso(e->a) ? RECORD : RAW_RECORD;
     if (is_iso(e->a) && (e->kind == TAKE || e->kind == SENT) && chance(60)) e->kind = mine[region(e->a) + FLYING] ? SENT : TAKE;
@@ -206,101 +136,7 @@ static void some_event(event *e, uint32_t damage) {
     }
 }
 
-static reply play(const side *s, uint8_t *m, event *e) {
-    reply r = {0, 0xBADC0DEu};
-    size_t len = s->memory;
-    uint8_t *p = bytes(&e->first), *q = bytes(&e->second), *f = bytes(&e->third);
-    switch (e->kind) {
-    case CONNECT: r.code = s->connect(m, len, e->a, e->b, e->c, e->d, &r.value); break;
-    case DISCONNECT: r.code = s->disconnect(m, len, e->a); break;
-    case CLOSE: r.code = s->close(m, len); break;
-    case ADVANCE: r.code = s->advance(m, len, e->a); break;
-    case FRAME: r.code = s->frame(m, len, e->a, e->b, e->c, p, e->first.n); break;
-    case START_FILTER: r.code = s->start_filter(m, len, e->a, e->b, p, e->first.n, q, e->second.n, f, e->third.n, &r.value); break;
-    case STOP_FILTER: r.code = s->stop_filter(m, len, e->a, e->b); break;
-    case START_PERIODIC: r.code = s->start_periodic(m, len, e->a, p, e->first.n, e->b, &r.value); break;
-    case STOP_PERIODIC: r.code = s->stop_periodic(m, len, e->a, e->b); break;
-    case WRITE: r.code = s->write(m, len, e->a, e->b, p, e->first.n, &r.value); break;
-    case READ: r.code = s->read(m, len, e->a, e->b, p, e->first.n, &r.value); break;
-    case TAKE: r.code = s->take(m, len, e->a, p, e->first.n); break;
-    case SENT: r.code = s->sent(m, len, e->a); break;
-    case CLEAR: r.code = s->clear(m, len, e->a, e->b); break;
-    case GET: r.code = s->get(m, len, e->a, e->b, &r.value); break;
-    case SET: r.code = s->set(m, len, e->a, e->b, e->c); break;
-    case SET_LIST: r.code = s->set_list(m, len, e->a, e->pairs, e->count); break;
-    case GET_LIST: r.code = s->get_list(m, len, e->a, e->pairs, e->count); break;
-    default: r.code = s->last_error(m, len, e->a, &r.value); break;
-    }
-    return r;
-}
-
-/* ---- what must hold of any call ---- */
-
-static int refused(const event *e, reply r) {
-    if (r.code == 0x00 || r.code == 0x09 || r.code == 0x12 || e->kind == SET_LIST || e->kind == GET_LIST) return 0;
-    return !(e->kind == WRITE && r.value > 0);
-}
-
-/* the channel that a call is on, or 0 */
-static uint32_t channel_of(const event *e) {
-    if (e->kind == CLOSE || e->kind == ADVANCE || e->kind == FRAME) return 0;
-    if (e->kind != CONNECT) return e->a >= 1 && e->a <= 8 ? e->a : 0;
-    return e->a > 3 ? 0 : e->b == 5 ? e->a + 1 : e->b == 6 ? e->a + 5 : 0;
-}
-
-/* may the event change this channel's region? */
-static int concerns(const event *e, uint32_t channel) {
-    if (e->kind == CLOSE || e->kind == ADVANCE) return 1;
-    if (e->kind == FRAME) return e->a == (channel - 1) % 4;
-    return channel_of(e) == channel;
-}
-
-/* the memory before it: nothing changed but what may */
-static void only_its_own(uint8_t *before, const event *e, reply r) {
-    uint32_t its = channel_of(e);
-    if (memcmp(before, mine, 4) && e->kind != ADVANCE) fail("the clock changed", on);
-    for (uint32_t channel = 1; channel <= 8; channel++)
-        if (!concerns(e, channel) && memcmp(before + region(channel), mine + region(channel), size_of(channel))) fail("another channel changed", on);
-    if (e->kind == LAST_ERROR && memcmp(before, mine, on->memory)) fail("asking changed something", on);
-    if (!refused(e, r)) return;
-    if (r.value != 0 && r.value != 0xBADC0DEu) fail("a refusal gave a number", on);
-    if (its && mine[region(its)] && r.code != 0x02 && (e->kind != CONNECT || r.code == 0x14))
-        before[region(its) + size_of(its) - 1] = (uint8_t)r.code;
-    if (memcmp(before, mine, on->memory)) fail("a refusal changed the memory", on);
-}
-
-/* one event on all sides */
-static void all_play(event *e) {
-    static uint8_t before[BOX_MOST];
-    static event first, other;
-    reply a;
-    playing = e;
-    memcpy(&first, e, sizeof first);
-    memcpy(before, mine, on->memory);
-    a = play(on, mine, &first);
-    only_its_own(before, e, a);
-    if (refused(e, a) && memcmp(first.first.room, e->first.room, sizeof e->first.room)) fail("a refusal changed a buffer", on);
-    if (!on->valid(mine, on->memory)) fail("the memory is not valid", on);
-    for (int k = 1; sides[k]; k++) {
-        reply b;
-        memcpy(&other, e, sizeof other);
-        b = play(sides[k], memories[k] + GUARD, &other);
-        if (a.code != b.code || a.value != b.value) fail("another answer", sides[k]);
-        if (memcmp(&first, &other, sizeof first)) fail("other buffers", sides[k]);
-        if (memcmp(mine, memories[k] + GUARD, on->memory)) fail("another memory", sides[k]);
-    }
-    for (int k = 0; sides[k]; k++)
-        if (!guarded(memories[k], on->memory)) fail("guard bytes of the memory", sides[k]);
-    if (!guarded(first.first.room, first.first.n) || !guarded(first.second.room, first.second.n) || !guarded(first.third.room, first.third.n))
-        fail("guard bytes of a buffer", on);
-    counted[e->kind][a.code & 0x1F]++;
-}
-
 /* ---- memories that were not reached ---- */
-
-static void all_have(void) {
-    for (int k = 1; sides[k]; k++) memcpy(memories[k] + GUARD, mine, on->memory);
-}
 
 /* a transfer within its limits or just beyond one, whatever went before */
 static void some_transfer(uint8_t *t) {
@@ -334,10 +170,8 @@ static void make(event *e) {
     static uint8_t before[BOX_MOST];
     uint32_t channel = 5 + below(4), at;
     uint8_t *r = mine + region(channel);
-    int valid;
     if (!r[0]) return;
     memcpy(before, mine, on->memory);
-    playing = NULL;
     switch (below(5)) {
     case 0: r[below(on->region)] = (uint8_t)(chance(50) ? below(8) : any()); break;
     case 1:
@@ -356,38 +190,16 @@ static void make(event *e) {
         else if (chance(50)) memset(r + FLYING, 0, 2 + RECORD);
         break;
     }
-    valid = on->valid(mine, on->memory);
-    all_have();
-    for (int k = 1; sides[k]; k++)
-        if (sides[k]->valid(memories[k] + GUARD, on->memory) != valid) fail("valid on one side", sides[k]);
-    if (valid) {
-        made++;
-        return;
-    }
-    for (int k = 0; sides[k]; k++) {
-        static event other;
-        static uint8_t spoiled[BOX_MOST];
-        memcpy(spoiled, memories[k] + GUARD, on->memory);
-        memcpy(&other, e, sizeof other);
-        if (play(sides[k], memories[k] + GUARD, &other).code != 0x1A) fail("not valid, and no 0x1A", sides[k]);
-        if (memcmp(spoiled, memories[k] + GUARD, on->memory) || memcmp(&other, e, sizeof other)) fail("0x1A changed something", sides[k]);
-    }
-    spoilt++;
-    memcpy(mine, before, on->memory);
-    all_have();
+    all_made(before, e);
 }
 
 static void sequence(uint32_t events, uint32_t damage, uint32_t making) {
     static event e;
     busy = below(4);
-    for (int k = 0; sides[k]; k++) {
-        memset(memories[k], 0xC3, GUARD + on->memory + GUARD);
-        if (sides[k]->power_on(memories[k] + GUARD, on->memory) != 0) fail("power-on", sides[k]);
-    }
+    all_begin();
     for (uint32_t l = 0; l < 4; l++) { /* every line has a channel and two filters, most often */
-        memset(&e, 0, sizeof e);
-        lend(&e.first, 0), lend(&e.second, 0), lend(&e.third, 0);
-        e.kind = CONNECT, e.a = l, e.b = 6, e.c = l % 2 * 0x800, e.d = 500000;
+        blank(&e, CONNECT, l);
+        e.b = 6, e.c = l % 2 * 0x800, e.d = 500000;
         all_play(&e);
         e.kind = START_FILTER, e.a = 5 + l;
         for (int i = 0; i < 3; i++) some_filter(&e, 0), all_play(&e);
@@ -401,13 +213,12 @@ static void sequence(uint32_t events, uint32_t damage, uint32_t making) {
 
 int main(int argc, char **argv) {
     uint32_t rounds = argc > 2 ? (uint32_t)strtoul(argv[2], NULL, 10) : 1;
-    unsigned long events = 0, answers = 0;
+    unsigned long events, answers;
     seed = argc > 1 ? strtoull(argv[1], NULL, 10) : 1;
     if (seed == 0) seed = 1;
-    on = sides[0];
+    on = sides[0], program = "iso_random";
     for (uint32_t r = 0; r < 20 * (rounds ? rounds : 1); r++) sequence(600, r % 3 * 5, r % 5 < 2 ? 0 : 10);
-    for (int k = 1; k <= KINDS; k++)
-        for (int c = 0; c < 0x20; c++) events += counted[k][c], answers += counted[k][c] > 0;
+    all_counted(&events, &answers);
     printf("random calls on ISO 15765 channels: %lu, %lu pairs of a call and a code; memories made: %lu valid, %lu not\n", events, answers, made,
            spoilt);
     return 0;

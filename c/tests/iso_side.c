@@ -5,8 +5,6 @@
 
 #define TRAWL_NO_J2534_NAMES
 #include "../../include/trawlpepper.h"
-#include "../twin/iso.h"
-#include "../twin/raw.h"
 #include "random.h"
 
 uint64_t seed = 1;
@@ -32,16 +30,16 @@ static uint32_t core_get_list(uint8_t *m, size_t len, uint32_t channel, struct t
 }
 
 static const side twin = {
-    "the twin", TWIN_MEMORY, RAW_PART, ISO_REGION,
+    "the twin", TWIN_MEMORY, RAW_PART, ISO_REGION, RAW_REGION, RAW_LAST, LINK_AT,
     twin_valid, twin_power_on, twin_connect, twin_disconnect, twin_close, twin_advance, twin_frame, twin_start_flow_filter, twin_stop_filter,
     twin_start_periodic, twin_stop_periodic, twin_write, twin_read, twin_take, twin_sent, twin_clear, twin_get, twin_set, twin_set_list,
-    twin_get_list, twin_last_error};
+    twin_get_list, twin_last_error, twin_link_open, twin_link_send, twin_link_receive, twin_link_end};
 
 static const side core = {
-    "the core", TRAWL_MEMORY, RAW_PART, ISO_REGION,
+    "the core", TRAWL_MEMORY, RAW_PART, ISO_REGION, RAW_REGION, RAW_LAST, LINK_AT,
     core_valid, trawl_power_on, trawl_connect, trawl_disconnect, trawl_close, trawl_advance, trawl_frame, trawl_start_flow_filter,
     trawl_stop_filter, trawl_start_periodic, trawl_stop_periodic, trawl_write, trawl_read, trawl_take, trawl_sent, trawl_clear, trawl_get,
-    trawl_set, core_set_list, core_get_list, trawl_last_error};
+    trawl_set, core_set_list, core_get_list, trawl_last_error, trawl_link_open, trawl_link_send, trawl_link_receive, trawl_link_end};
 
 const side *const sides[] = {&core, &twin, NULL};
 
@@ -57,6 +55,12 @@ void record_at(uint8_t *p, size_t size, uint32_t protocol, uint32_t rx, uint32_t
     put_word(p, protocol), put_word(p + 4, rx), put_word(p + 8, tx), put_word(p + 12, time), put_word(p + 16, 4 + n), put_word(p + 20, extra);
     for (int i = 0; i < 4; i++) p[24 + i] = (uint8_t)(id >> (24 - 8 * i));
     if (n) memcpy(p + 28, payload, n);
+}
+
+int is_raw_record(const uint8_t *p, uint32_t rx, uint32_t tx, uint32_t time, uint32_t id, const uint8_t *data, uint32_t n) {
+    uint8_t clean[RAW_RECORD];
+    record_at(clean, RAW_RECORD, 5, rx, tx, time, 4 + n, id, data, n);
+    return memcmp(p, clean, RAW_RECORD) == 0;
 }
 
 void message_at(uint8_t *p, uint32_t tx, uint32_t id, const uint8_t *payload, uint32_t n) {

@@ -1,4 +1,4 @@
-/* What the tests of ISO 15765 channels share. The calls of a box are a table, so that the same story is told to every implementation there is. */
+/* What the tests of ISO 15765 channels and of TP2.0 connections share. The calls of a box are a table, so that the same story is told to every implementation there is. */
 #ifndef ISO_SIDE_H
 #define ISO_SIDE_H
 
@@ -8,11 +8,12 @@
 #include "../twin/twin.h"
 
 enum { BOX_MOST = 65536, RAW_RECORD = 36, RECORD = 536, LONGEST = 508 }; /* a memory at most; a raw record; one of these channels, its payload */
-enum { PAIRS_MOST = 20 };                                                /* of a list */
+enum { PAIRS_MOST = 20, MESSAGE = 512 };                                 /* of a list; the longest message of a connection */
 
 typedef struct {
     const char *name;
     size_t memory, regions, region; /* the memory's size; where the regions of channels 5 to 8 begin, and how long each is */
+    size_t raw_region, last, link;  /* how long the region of channels 1 to 4 is; where in it the last code and the connection lie */
     int (*valid)(const uint8_t *m, size_t len);
     uint32_t (*power_on)(uint8_t *m, size_t len);
     uint32_t (*connect)(uint8_t *m, size_t len, uint32_t line, uint32_t protocol, uint32_t flags, uint32_t rate, uint32_t *channel);
@@ -36,6 +37,11 @@ typedef struct {
     uint32_t (*set_list)(uint8_t *m, size_t len, uint32_t channel, const struct twin_pair *pairs, size_t count);
     uint32_t (*get_list)(uint8_t *m, size_t len, uint32_t channel, struct twin_pair *pairs, size_t count);
     uint32_t (*last_error)(const uint8_t *m, size_t len, uint32_t channel, uint32_t *code);
+    uint32_t (*link_open)(uint8_t *m, size_t len, uint32_t channel, uint32_t own, uint32_t destination, uint32_t rx_id, uint32_t application,
+                          uint32_t block_size, uint32_t t1, uint32_t t3);
+    uint32_t (*link_send)(uint8_t *m, size_t len, uint32_t channel, const uint8_t *message, size_t message_len);
+    uint32_t (*link_receive)(uint8_t *m, size_t len, uint32_t channel, uint8_t *b, size_t b_len, uint32_t *length);
+    uint32_t (*link_end)(uint8_t *m, size_t len, uint32_t channel);
 } side;
 
 extern const side *const sides[]; /* the core, the twin, then NULL; their memories lie alike */
@@ -49,10 +55,13 @@ void put_word(uint8_t *p, uint32_t v);
 void record_at(uint8_t *p, size_t size, uint32_t protocol, uint32_t rx, uint32_t tx, uint32_t time, uint32_t extra, uint32_t id,
                const uint8_t *payload, uint32_t n);
 
-/* a message of these channels to send: what is ignored is noise */
+/* is p a clean raw record, byte for byte? Its extra index is its size */
+int is_raw_record(const uint8_t *p, uint32_t rx, uint32_t tx, uint32_t time, uint32_t id, const uint8_t *data, uint32_t n);
+
+/* a message of ISO 15765 channels to send: what is ignored is noise */
 void message_at(uint8_t *p, uint32_t tx, uint32_t id, const uint8_t *payload, uint32_t n);
 
-/* is p such a record of these channels, byte for byte? Its extra index is its size, or 0 without payload */
+/* is p such a record of ISO 15765 channels, byte for byte? Its extra index is its size, or 0 without payload */
 int is_record(const uint8_t *p, uint32_t rx, uint32_t tx, uint32_t time, uint32_t id, const uint8_t *payload, uint32_t n);
 
 #endif

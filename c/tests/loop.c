@@ -21,7 +21,11 @@ static void must(int true_, const char *what) {
 
 static uint32_t elapsed, arriving[4], handed[4], last[4]; /* frames still to come; how often it was handed one, and the last one's identifier */
 static int busy[4], sent[4], fails;
-static const char *partner; /* what a partner on line 1 says next: three bytes */
+static const char *partner; /* what a partner on line 1 says next: with which identifier, and how many bytes */
+static uint32_t partner_id;
+static size_t partner_n;
+
+static void partner_says(uint32_t id, const char *bytes, size_t n_) { partner = bytes, partner_id = id, partner_n = n_; }
 
 static uint32_t microseconds_since_last_time(void) {
     uint32_t us = elapsed;
@@ -31,8 +35,8 @@ static uint32_t microseconds_since_last_time(void) {
 
 static int controller_received(uint32_t line, uint32_t *wide, uint32_t *id, uint8_t *bytes, size_t *length) {
     if (partner && line == 1) {
-        *wide = 0, *id = 0x641, *length = 3;
-        memcpy(bytes, partner, 3);
+        *wide = 0, *id = partner_id, *length = partner_n;
+        memcpy(bytes, partner, partner_n);
         partner = NULL;
         return 1;
     }
@@ -152,9 +156,19 @@ int main(void) {
     wire(), step();
     queue_one(channel, 0x706), queue_one(channel, 0x707), converse();
     hands(0x241);
-    partner = "\x30\0\0", hands(0x706);
+    partner_says(0x641, "\x30\0\0", 3), hands(0x706);
     hands(0x241), hands(0x707);
     must(trawl_read(box, sizeof box, 6, 1, record, sizeof record, &number) == 0 && trawl_record_tx_done(record) == 1, "the message is sent");
+
+    /* a TP2.0 connection on the same line: each answer comes with the sent of what it answers, and counts */
+    must(trawl_link_open(box, sizeof box, channel, 0x200, 0x01, 0x300, 0x01, 15, 0x8A, 0x00) == 0, "opening");
+    hands(0x200);
+    partner_says(0x201, "\0\xD0\0\3\x40\6\1", 7), hands(0x640);
+    partner_says(0x300, "\xA1\x0F\x8A\xFF\0\xFF", 6), wire(), step();
+    must(trawl_link_send(box, sizeof box, channel, (const uint8_t *)"ten bytes.", 10) == 0, "it stands");
+    hands(0x640), hands(0x640);
+    partner_says(0x300, "\xB2", 1), wire(), step();
+    must(trawl_link_send(box, sizeof box, channel, (const uint8_t *)"more", 4) == 0, "the message is acknowledged");
     printf("the header's loop: %lu looks\n", held);
     return 0;
 }

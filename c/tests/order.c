@@ -360,6 +360,83 @@ static void told(void) {
     GIVES(0x02, trawl_disconnect(BOX, WIDE_TALKS));
 }
 
+/* ---- TP2.0 connections ---- */
+
+/* a frame of the module on line 0 */
+static void module(uint32_t identifier, const char *data, size_t n) {
+    GIVES(0x00, trawl_frame(BOX, 0, 0, identifier, (const uint8_t *)data, n));
+}
+
+static void opening(void) {
+    static const uint32_t good[7] = {0x200, 0x01, 0x300, 0x01, 15, 0x8A, 0x00};
+    static const uint32_t bad[][2] = {{0, 0x1FF}, {0, 0x2F0}, {1, 0xF0}, {1, 0x101}, {2, 0x800}, {3, 0x00}, {3, 0x101}, {4, 0}, {4, 16}, {5, 256},
+                                      {6, 256}}; /* which field, and what */
+    GIVES(0x1A, trawl_link_open(BROKEN, NONE, 0, 0xF0, 0x800, 0, 0, 256, 256));
+    GIVES(0x1A, trawl_link_open(SHORT, NONE, 0, 0xF0, 0x800, 0, 0, 256, 256));
+    GIVES(0x02, trawl_link_open(BOX, NONE, 0, 0xF0, 0x800, 0, 0, 256, 256));
+    GIVES(0x02, trawl_link_open(BOX, CLOSED, 0, 0xF0, 0x800, 0, 0, 256, 256));
+    GIVES(0x02, trawl_link_open(BOX, TALKS, 0, 0xF0, 0x800, 0, 0, 256, 256)); /* open, and none of 1 to 4: nothing is kept */
+    NOTES(WIDE, 0x0A, trawl_link_open(BOX, WIDE, 0x200, 0x01, 0x300, 0x01, 15, 0x8A, 0x00));
+    for (size_t i = 0; i < sizeof bad / sizeof *bad; i++) {
+        uint32_t f[7];
+        memcpy(f, good, sizeof f);
+        f[bad[i][0]] = bad[i][1];
+        NOTES(BOTH, 0x0A, trawl_link_open(BOX, BOTH, f[0], f[1], f[2], f[3], f[4], f[5], f[6]));
+    }
+    NOTES(BOTH, 0x00, trawl_link_open(BOX, BOTH, 0x2EF, 0xEF, 0x7FF, 0x21, 1, 255, 255));
+    NOTES(BOTH, 0x0A, trawl_link_open(BOX, BOTH, 0x2EF, 0xEF, 0x7FF, 0x21, 16, 255, 255)); /* before 0x14 */
+    NOTES(BOTH, 0x14, trawl_link_open(BOX, BOTH, 0x200, 0x00, 0x000, 0x10, 15, 0, 0));
+    NOTES(BOTH, 0x00, trawl_link_end(BOX, BOTH));
+}
+
+/* the others, with no connection, with one that opens, stands, leaves */
+static void connection(void) {
+    static uint8_t message[513], out[513];
+    GIVES(0x1A, trawl_link_send(BROKEN, NONE, message, 0));
+    GIVES(0x02, trawl_link_send(BOX, NONE, message, 0));
+    GIVES(0x02, trawl_link_send(BOX, TALKS, message, 0));
+    NOTES(WIDE, 0x0A, trawl_link_send(BOX, WIDE, message, 1));
+    NOTES(NARROW, 0x07, trawl_link_send(BOX, NARROW, message, 0)); /* before the length */
+    GIVES(0x1A, trawl_link_receive(BROKEN, NONE, out, 511, &number));
+    GIVES(0x02, trawl_link_receive(BOX, CLOSED, out, 511, &number));
+    GIVES(0x02, trawl_link_receive(BOX, TALKS, out, 511, &number));
+    NOTES(WIDE, 0x04, trawl_link_receive(BOX, WIDE, out, 511, &number)); /* before the width */
+    NOTES(WIDE, 0x0A, trawl_link_receive(BOX, WIDE, out, 512, &number));
+    NOTES(NARROW, 0x04, trawl_link_receive(BOX, NARROW, out, 511, &number));
+    NOTES(NARROW, 0x07, trawl_link_receive(BOX, NARROW, out, 512, &number));
+    GIVES(0x1A, trawl_link_end(BROKEN, NONE));
+    GIVES(0x02, trawl_link_end(BOX, CLOSED));
+    GIVES(0x02, trawl_link_end(BOX, TALKS));
+    NOTES(WIDE, 0x0A, trawl_link_end(BOX, WIDE));
+    NOTES(NARROW, 0x07, trawl_link_end(BOX, NARROW));
+
+    NOTES(NARROW, 0x00, trawl_link_open(BOX, NARROW, 0x200, 0x01, 0x300, 0x01, 15, 0x8A, 0x00));
+    NOTES(NARROW, 0x07, trawl_link_send(BOX, NARROW, message, 1));
+    NOTES(NARROW, 0x07, trawl_link_receive(BOX, NARROW, R(out), &number));
+    module(0x201, "\0\xD0\0\3\x40\7\1", 7);
+    NOTES(NARROW, 0x07, trawl_link_send(BOX, NARROW, message, 1));
+    NOTES(NARROW, 0x14, trawl_link_open(BOX, NARROW, 0x200, 0x01, 0x300, 0x01, 15, 0x8A, 0x00));
+    module(0x300, "\xA1\x0F\x8A\xFF\0\xFF", 6);
+    NOTES(NARROW, 0x10, trawl_link_receive(BOX, NARROW, R(out), &number));
+    NOTES(NARROW, 0x04, trawl_link_receive(BOX, NARROW, out, 511, &number));
+    NOTES(NARROW, 0x0A, trawl_link_send(BOX, NARROW, message, 0));
+    NOTES(NARROW, 0x0A, trawl_link_send(BOX, NARROW, message, 513));
+    NOTES(NARROW, 0x00, trawl_link_send(BOX, NARROW, message, 512));
+    NOTES(NARROW, 0x0A, trawl_link_send(BOX, NARROW, message, 513)); /* before 0x11 */
+    NOTES(NARROW, 0x11, trawl_link_send(BOX, NARROW, message, 1));
+    module(0x300, "\x10\x50", 2);
+    NOTES(NARROW, 0x04, trawl_link_receive(BOX, NARROW, out, 511, &number));
+    NOTES(NARROW, 0x00, trawl_link_receive(BOX, NARROW, out, 512, &number));
+    must(number == 1 && out[0] == 0x50, "a message received");
+    NOTES(NARROW, 0x10, trawl_link_receive(BOX, NARROW, R(out), &number));
+    NOTES(NARROW, 0x14, trawl_link_open(BOX, NARROW, 0x200, 0x01, 0x300, 0x01, 15, 0x8A, 0x00));
+    NOTES(NARROW, 0x00, trawl_link_end(BOX, NARROW));
+    NOTES(NARROW, 0x07, trawl_link_end(BOX, NARROW));
+    NOTES(NARROW, 0x07, trawl_link_send(BOX, NARROW, message, 513));
+    NOTES(NARROW, 0x07, trawl_link_receive(BOX, NARROW, R(out), &number));
+    NOTES(NARROW, 0x14, trawl_link_open(BOX, NARROW, 0x200, 0x01, 0x300, 0x01, 15, 0x8A, 0x00)); /* its disconnect telegram waits */
+}
+
 /* refused before any pair is done, or at the first: nothing but the last code changes, and the lists stay */
 static void lists(void) {
     static const struct trawl_pair seventeen[17] = {{2, 9}, {1, 9}, {3, 1}}, value[3] = {{1, 9}, {2, 9}, {3, 1}}, old[1] = {{1, 125000}};
@@ -429,6 +506,8 @@ int main(void) {
     talks();
     messages();
     told();
+    opening();
+    connection();
     settings();
     printf("codes in the header's order: %lu looks\n", held);
     return 0;

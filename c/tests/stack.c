@@ -1,5 +1,6 @@
-/* How much stack each call takes: `stack [MOST]`. Each call runs on a painted stack of its own, on a box that is idle, full, full without a frame in
- * flight, and broken; the deepest byte that was written counts, less what an empty function takes. With a number it fails where a call takes more. */
+/* How much stack each call takes: `stack [MOST]`. Each call runs on a painted stack of its own, on a box that is idle, idle with connections, full,
+ * full without a frame in flight, and broken; the deepest byte that was written counts, less what an empty function takes. With a number it fails
+ * where a call takes more. */
 #define _XOPEN_SOURCE 700
 #include <stdio.h>
 #include <stdlib.h>
@@ -11,7 +12,7 @@
 
 enum { STACK = 131072 };
 
-static uint8_t idle[TRAWL_MEMORY], full[TRAWL_MEMORY], ready[TRAWL_MEMORY], broken[TRAWL_MEMORY], box[TRAWL_MEMORY];
+static uint8_t idle[TRAWL_MEMORY], linked[TRAWL_MEMORY], full[TRAWL_MEMORY], ready[TRAWL_MEMORY], broken[TRAWL_MEMORY], box[TRAWL_MEMORY];
 static uint8_t message[TRAWL_RECORD], many[40 * TRAWL_RECORD], mask[TRAWL_ISO_RECORD], partner[TRAWL_ISO_RECORD], own[TRAWL_ISO_RECORD];
 static uint8_t messages[9 * TRAWL_ISO_RECORD], telegram[TRAWL_TELEGRAM], eight[8], out[2 * TRAWL_EVENT_ROOM];
 static const uint8_t recording[] = {1, 0, 5, 0, 0xA0, 0xC2, 0x1E, 4, 1, 5, 0, 0, 1, 2, 1, 2, 11, 1, 1, 12, 1, 13, 1, 14, 1, 1, 15, 1, 1,
@@ -58,6 +59,16 @@ static void do_iso_sent(void) { trawl_sent(BOX, 5); }
 static void do_iso_clear(void) { trawl_clear(BOX, 5, 4); }
 static void do_iso_disconnect(void) { trawl_disconnect(BOX, 5); }
 static void do_iso_set_list(void) { trawl_set_list(BOX, 5, pairs, TRAWL_PAIRS); }
+static void do_link_open(void) { trawl_link_open(BOX, 2, 0x200, 0x01, 0x300, 0x01, 15, 0x8A, 0x00); }
+static void do_link_send(void) { trawl_link_send(BOX, 3, messages, 512); }
+static void do_link_receive(void) { trawl_link_receive(BOX, 1, out, sizeof out, &number); }
+static void do_link_end(void) { trawl_link_end(BOX, 1); }
+static void do_link_take(void) { do_link_send(), trawl_take(BOX, 3, many, 36); }
+static void do_link_sent(void) { do_link_take(), trawl_sent(BOX, 3); }
+static void do_link_acknowledge(void) { trawl_frame(BOX, 0, 0, 0x300, (const uint8_t *)"\xBF", 1); } /* of a block: the rest moves up */
+static void do_link_data(void) { trawl_frame(BOX, 2, 0, 0x300, (const uint8_t *)"\x10\1\2\3\4\5\6\7", 8); }
+static void do_link_break(void) { trawl_frame(BOX, 0, 0, 0x300, (const uint8_t *)"\xA4", 1); }
+static void do_link_reply(void) { trawl_frame(BOX, 1, 0, 0x201, (const uint8_t *)"\0\xD0\0\3\x40\7\1", 7); }
 static void do_read_telegram(void) { trawl_read_telegram(0, 0, (const uint8_t *)"\xA0\x0F\x8A\xFF\x32\xFF", 6, telegram, sizeof telegram); }
 static void do_write_telegram(void) { trawl_write_telegram(telegram, sizeof telegram, eight, 8, &number); }
 static void do_time(void) { number = trawl_time(0x8A); }
@@ -75,6 +86,9 @@ static const struct {
              {"frame, flow", do_iso_flow}, {"start_flow_filter", do_iso_start_filter}, {"stop_filter, ISO", do_iso_stop_filter},
              {"write, ISO", do_iso_write}, {"read, ISO", do_iso_read}, {"take, ISO", do_iso_take}, {"sent, ISO", do_iso_sent},
              {"clear, ISO", do_iso_clear}, {"disconnect, ISO", do_iso_disconnect}, {"set_list, ISO", do_iso_set_list},
+             {"link_open", do_link_open}, {"link_send", do_link_send}, {"link_receive", do_link_receive}, {"link_end", do_link_end},
+             {"take, TP2.0", do_link_take}, {"sent, TP2.0", do_link_sent}, {"frame, acknowledge", do_link_acknowledge},
+             {"frame, data", do_link_data}, {"frame, break", do_link_break}, {"frame, reply", do_link_reply},
              {"read_telegram", do_read_telegram}, {"write_telegram", do_write_telegram}, {"time", do_time}, {"replay", do_replay}};
 
 /* ---- a painted stack ---- */
@@ -116,6 +130,21 @@ static void talks(uint8_t *m, uint32_t line) {
     trawl_write(m, TRAWL_MEMORY, line + 5, 4, messages, sizeof messages, &v);
 }
 
+/* a connection on each of the lines 0 to 2: the first awaits an acknowledge and holds a complete message, the second opens, the third is idle */
+static void links(uint8_t *m) {
+    static const uint8_t reply[7] = {0x00, 0xD0, 0x00, 0x03, 0x40, 0x07, 0x01}, joined[6] = {0xA1, 0x0F, 0x8A, 0xFF, 0x00, 0xFF};
+    uint32_t i;
+    for (i = 0; i < 3; i++) {
+        trawl_link_open(m, TRAWL_MEMORY, i + 1, 0x200, 0x01, 0x300, 0x01, 15, 0xFF, 0x00);
+        if (i == 1) continue;
+        trawl_frame(m, TRAWL_MEMORY, i, 0, 0x201, reply, sizeof reply);
+        trawl_frame(m, TRAWL_MEMORY, i, 0, 0x300, joined, sizeof joined);
+    }
+    trawl_link_send(m, TRAWL_MEMORY, 1, messages, 512);
+    for (i = 0; i < 15; i++) trawl_take(m, TRAWL_MEMORY, 1, out, sizeof out), trawl_sent(m, TRAWL_MEMORY, 1);
+    trawl_frame(m, TRAWL_MEMORY, 0, 0, 0x300, (const uint8_t *)"\x30\1\2\3\4\5\6\7", 8);
+}
+
 static void boxes(void) {
     static const uint8_t data[8] = {1, 2, 3, 4, 5, 6, 7, 8};
     uint32_t v, i;
@@ -126,7 +155,9 @@ static void boxes(void) {
     for (i = 0; i < 9; i++) trawl_iso_record_make(messages + 536 * i, 0, 0x242, many, 13);
     trawl_power_on(idle, sizeof idle);
     for (i = 0; i < 3; i++) trawl_connect(idle, sizeof idle, i, 5, 0, 500000, &v), trawl_connect(idle, sizeof idle, i, 6, 0, 500000, &v);
-    memcpy(full, idle, sizeof full);
+    memcpy(linked, idle, sizeof linked);
+    links(linked);
+    memcpy(full, linked, sizeof full);
     for (i = 0; i < 3; i++) {
         trawl_set(full, sizeof full, i + 1, 3, 1);
         for (v = 0; v < 10; v++) {
@@ -146,13 +177,13 @@ static void boxes(void) {
 }
 
 int main(int argc, char **argv) {
-    static uint8_t *const states[4] = {idle, full, ready, broken};
+    static uint8_t *const states[5] = {idle, linked, full, ready, broken};
     size_t most = 0, base, k;
     boxes();
     base = depth(nothing);
     for (k = 0; k < sizeof calls / sizeof *calls; k++) {
         size_t deepest = 0, s;
-        for (s = 0; s < 4; s++) {
+        for (s = 0; s < 5; s++) {
             size_t d;
             memcpy(box, states[s], sizeof box);
             d = depth(calls[k].call);

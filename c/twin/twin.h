@@ -1,13 +1,13 @@
-/* The twin: a second implementation of the box in plain C99, written from the scope, its requests and docs/LAYOUT.md and from nothing else. It works
- * on the same device memory: the raw channels 1 to 4 with the clock (raw.h) and behind them the ISO 15765 channels 5 to 8 (iso.h), each seen as a
- * struct of bytes. The tests hold the proved core against it. */
+/* The twin: a second implementation of the box in plain C99, written from the scope, its requests and docs/LAYOUT.md and from nothing else, but for
+ * TP2.0 connections (link.c says how). It works on the same device memory: the raw channels 1 to 4 with the clock (raw.h), each with its connection
+ * (link.h), and behind them the ISO 15765 channels 5 to 8 (iso.h), each seen as a struct of bytes. The tests hold the proved core against it. */
 #ifndef TWIN_H
 #define TWIN_H
 
 #include <stddef.h>
 #include <stdint.h>
 
-#define TWIN_MEMORY 42256u
+#include "sizes.h"
 
 int twin_valid(const uint8_t *m, size_t len);
 uint32_t twin_power_on(uint8_t *m, size_t len);
@@ -38,6 +38,13 @@ struct twin_pair {
 };
 uint32_t twin_set_list(uint8_t *m, size_t len, uint32_t channel, const struct twin_pair *pairs, size_t count);
 uint32_t twin_get_list(uint8_t *m, size_t len, uint32_t channel, struct twin_pair *pairs, size_t count);
+
+/* TP2.0 connections of channels 1 to 4. */
+uint32_t twin_link_open(uint8_t *m, size_t len, uint32_t channel, uint32_t own, uint32_t destination, uint32_t rx_id, uint32_t application,
+                        uint32_t block_size, uint32_t t1, uint32_t t3);
+uint32_t twin_link_send(uint8_t *m, size_t len, uint32_t channel, const uint8_t *message, size_t message_len);
+uint32_t twin_link_receive(uint8_t *m, size_t len, uint32_t channel, uint8_t *b, size_t b_len, uint32_t *length);
+uint32_t twin_link_end(uint8_t *m, size_t len, uint32_t channel);
 
 uint32_t twin_last_error(const uint8_t *m, size_t len, uint32_t channel, uint32_t *code);
 
