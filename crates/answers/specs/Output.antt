@@ -6,7 +6,7 @@ use lib.ListN.{take}
 use Rattle.codec.specs.Plain.{if_then_else_}
 use Rattle.recording_sizes.specs.Sizes.{recordOn}
 use Rattle.number.specs.Number.{bytesOf}
-use Rattle.machine.specs.Channel.{Call, disconnect, startFilter, startFlow, stopFilter, startPeriodic, stopPeriodic, write, read, takeNext, sent, clear, getParameter, setParameter, lastError, getList, setList, linkOpen, linkSend, linkReceive, linkEnd, Answer}
+use Rattle.machine.specs.Channel.{Call, disconnect, startFilter, startFlow, stopFilter, startPeriodic, stopPeriodic, write, read, takeNext, sent, clear, getParameter, setParameter, lastError, getList, setList, onRaw, Answer}
 use Rattle.machine.specs.Step.{Event, connect, call, frame, advance, close}
 
 -- these bytes on 0x00, else none
@@ -32,10 +32,7 @@ afterCall channel (setParameter p v) a = []
 afterCall channel lastError a = []
 afterCall channel (getList ps) a = []
 afterCall channel (setList ps) a = []
-afterCall channel (linkOpen x) a = []
-afterCall channel (linkSend m) a = []
-afterCall channel (linkReceive b) a = []
-afterCall channel linkEnd a = []
+afterCall channel (onRaw x) a = []
 
 -- behind the code of an event: on 0x00 connect gives the channel
 unfoldable pub afterCode : Event → Answer → List ℕ

@@ -15,7 +15,7 @@ use Rattle.machine.specs.Codes.{stepCodes, codeOf}
 use Rattle.machine.specs.Message.{Rec, clean}
 use Rattle.machine.specs.Filter.{Slots}
 use Rattle.machine.specs.Limits.{lastLine, mostAdvance}
-use Rattle.machine.specs.Channel.{Config, Receiving, Call, disconnect, startFilter, startFlow, stopFilter, startPeriodic, stopPeriodic, write, read, takeNext, sent, clear, getParameter, setParameter, lastError, getList, setList, linkOpen, linkSend, linkReceive, linkEnd, Pairs, flat, lent, Answer, says, frameCode, readCode, Wrote, unlessStopped, listCode}
+use Rattle.machine.specs.Channel.{Config, Receiving, Call, disconnect, startFilter, startFlow, stopFilter, startPeriodic, stopPeriodic, write, read, takeNext, sent, clear, getParameter, setParameter, lastError, getList, setList, onRaw, Pairs, flat, lent, Answer, says, frameCode, readCode, Wrote, unlessStopped, listCode}
 use Rattle.machine.specs.Step.{Event, connect, call, frame, advance, close, lentBy, ownAnswer}
 use Rattle.machine.specs.Demands.{results, pairCodes, didPart, partDone, refusal}
 use Rattle.machine.proofs.Parameters.{set-case, get-case, set-all-case, get-all-case}
@@ -196,10 +196,7 @@ module _ (k : ℕ) (o : OpenIso) where
   ready-fair rates now lastError = search fair
   ready-fair rates now (getList ps) = get-list-fair ps
   ready-fair rates now (setList ps) = set-list-fair rates ps
-  ready-fair rates now (linkOpen q) = search fair
-  ready-fair rates now (linkSend m) = search fair
-  ready-fair rates now (linkReceive b) = search fair
-  ready-fair rates now linkEnd = search fair
+  ready-fair rates now (onRaw x) = search fair
 
 -- the code of a call on an open channel is one of those
 pub ready-codes : (rates : List ℕ) (now : ℕ) (o : OpenIso) (x : Call) → T (member (onReady rates now o x .1 .code) isoCodes)
@@ -246,10 +243,7 @@ ready-readies rates now o (setParameter p v) = tt
 ready-readies rates now o lastError = tt
 ready-readies rates now o (getList ps) = search (unless-readies, tt)
 ready-readies rates now o (setList ps) = search (unless-readies, tt)
-ready-readies rates now o (linkOpen q) = tt
-ready-readies rates now o (linkSend m) = tt
-ready-readies rates now o (linkReceive b) = tt
-ready-readies rates now o linkEnd = tt
+ready-readies rates now o (onRaw x) = tt
 
 -- 0x14 is given for an open channel alone, which stays open
 pub in-use-ready : (rates : List ℕ) (c : Iso) (l p f r : ℕ) → onIsoConnect rates c l p f r .1 .code ≡ 0x14 → T (isReady (onIsoConnect rates c l p f r .0))

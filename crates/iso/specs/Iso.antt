@@ -15,7 +15,7 @@ pub use Rattle.iso.specs.Talk.{Reception, Stage, Transmission, Transfer,
 unfoldable pub use Rattle.iso.specs.Talk.{numberAfter, framed, firstFrame, nextFrame, flowFrame, gapOf, becomes, rxStart, arrived, ended, low, transmitting, onSingle, onFirst, onNext, onConsecutive, staged, onFlow, onFlowOf, listening, heard, laterStage, laterTransfer, gives, answerOf, nextOf, segmentOf, carries, startOf, airborne, sentStage, sentOf, wholeOf, doneOf}
 use Rattle.machine.specs.Message.{bit, widthFlag, idBytes, idOf, idLimit, takes, Rec, protocolOf, txFlagsOf, sizeOf, wideOf, dataOf, clean, received}
 use Rattle.machine.specs.Filter.{Slots, free, has, anySlot}
-use Rattle.machine.specs.Channel.{Config, Receiving, Call, disconnect, startFilter, startFlow, stopFilter, startPeriodic, stopPeriodic, write, read, takeNext, sent, clear, getParameter, setParameter, lastError, getList, setList, linkOpen, linkSend, linkReceive, linkEnd, Pairs, flat, lent, Answer, says, frameCode, readCode, isFlags, Wrote, unlessStopped, getIn, setIn, getAll, setAll, listCode}
+use Rattle.machine.specs.Channel.{Config, Receiving, Call, disconnect, startFilter, startFlow, stopFilter, startPeriodic, stopPeriodic, write, read, takeNext, sent, clear, getParameter, setParameter, lastError, getList, setList, onRaw, rawLent, Pairs, flat, lent, Answer, says, frameCode, readCode, isFlags, Wrote, unlessStopped, getIn, setIn, getAll, setAll, listCode}
 
 -- ---- the channel
 pub record Flight : Type 0 where
@@ -394,10 +394,7 @@ onReady rates now o (setParameter parameter value) = onIsoSet rates o parameter 
 onReady rates now o lastError = did o (o .last)
 onReady rates now o (getList pairs) = onIsoGetList o pairs
 onReady rates now o (setList pairs) = onIsoSetList rates o pairs
-onReady rates now o (linkOpen asked) = (ready o, says 0x01 0 [])
-onReady rates now o (linkSend m) = (ready o, says 0x01 0 [])
-onReady rates now o (linkReceive buffer) = (ready o, says 0x01 0 buffer)
-onReady rates now o linkEnd = (ready o, says 0x01 0 [])
+onReady rates now o (onRaw x) = (ready o, says 0x01 0 (rawLent x))
 
 -- 0x02 where the channel is not open
 unfoldable pub onIsoCall : List ℕ → ℕ → Iso → Call → IsoOutcome

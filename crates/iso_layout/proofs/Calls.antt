@@ -17,7 +17,7 @@ use Rattle.machine.specs.Codes.{codeOf}
 use Rattle.machine.specs.Limits.{mostBytes, mostAdvance, dataIn}
 use Rattle.machine.specs.Message.{idOf, idLimit, takes, Rec, sizeOf, wideOf, dataOf, clean}
 use Rattle.machine.specs.Filter.{Slots, free, has, taken, anySlot}
-use Rattle.machine.specs.Channel.{Config, Receiving, Call, disconnect, startFilter, startFlow, stopFilter, startPeriodic, stopPeriodic, write, read, takeNext, sent, clear, getParameter, setParameter, lastError, getList, setList, linkOpen, linkSend, linkReceive, linkEnd, says, frameCode, isFlags, unlessStopped, listCode}
+use Rattle.machine.specs.Channel.{Config, Receiving, Call, disconnect, startFilter, startFlow, stopFilter, startPeriodic, stopPeriodic, write, read, takeNext, sent, clear, getParameter, setParameter, lastError, getList, setList, onRaw, says, frameCode, isFlags, unlessStopped, listCode}
 use Rattle.machine.specs.Step.{Event, connect, call, frame, advance, close}
 use Rattle.iso.specs.Limits.{mostTalks, mostMessages, mostHeard, isoData, isoRecordSize, leastMessage}
 use Rattle.iso.specs.Step.{isoStep}
@@ -381,10 +381,7 @@ module _ (rates : List ℕ) (known : Known rates) (now : ℕ) (h : now < 2 ^ 32)
   fine-ready o g lastError b = good-iso o g
   fine-ready o g (getList ps) b = unless-fine _ (ready o) _ _ tt (good-iso o g) (λ f. good-iso o g)
   fine-ready o g (setList ps) b = unless-fine _ (ready o) [] _ tt (good-iso o g) (λ f. put-set o g _ (config-set-all rates known now h (o .config) (g .config-ok) ps))
-  fine-ready o g (linkOpen q) b = good-iso o g
-  fine-ready o g (linkSend m) b = good-iso o g
-  fine-ready o g (linkReceive m) b = good-iso o g
-  fine-ready o g linkEnd b = good-iso o g
+  fine-ready o g (onRaw x) b = good-iso o g
 
   pub fine-fresh : (flags rate : ℕ) → T (isFlags flags) → T (member rate rates) → FineIso (ready (freshIso flags rate))
   unfolding freshIso noTalks slot knowsOther transmitsIn fliesIn flightFits

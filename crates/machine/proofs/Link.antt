@@ -8,7 +8,7 @@ use mathlib.Core.List.{List}
 use Rattle.codec.specs.Plain.{if_then_else_}
 use Rattle.link.specs.Connection.{Connection, absent, Offer}
 use Rattle.machine.specs.Message.{Rec}
-use Rattle.machine.specs.Channel.{Chan, closed, opened, Open, withConfig, withFilters, withSending, withReceiving, Call, disconnect, startFilter, startFlow, stopFilter, startPeriodic, stopPeriodic, write, read, takeNext, sent, clear, getParameter, setParameter, lastError, getList, setList, linkOpen, linkSend, linkReceive, linkEnd, says, Outcome, unless, doneWith, onStartFilter, onStopFilter, reading, onRead, onWrite, onStartPeriodic, onStopPeriodic, Next, next, giving, chosen, mayGo, chosenOr, taking, onTake, sending, onSent, onClear, onGet, setTo, onSet, onGetList, onSetList, onLinkOpen, onLinkSend, onLinkReceive, onLinkEnd, onOpen}
+use Rattle.machine.specs.Channel.{Chan, closed, opened, Open, withConfig, withFilters, withSending, withReceiving, Call, disconnect, startFilter, startFlow, stopFilter, startPeriodic, stopPeriodic, write, read, takeNext, sent, clear, getParameter, setParameter, lastError, getList, setList, opensLink, sendsLink, receivesLink, endsLink, decides, onRaw, says, Outcome, unless, doneWith, onStartFilter, onStopFilter, reading, onRead, onWrite, onStartPeriodic, onStopPeriodic, Next, next, giving, chosen, mayGo, chosenOr, taking, onTake, sending, onSent, onClear, onGet, setTo, onSet, onGetList, onSetList, onLinkOpen, onLinkSend, onLinkReceive, onLinkEnd, onRawCall, onDecide, onOpen}
 use Rattle.machine.proofs.Refusals.{unless-case, if-case}
 
 -- the connection of a channel
@@ -53,7 +53,7 @@ module _ (o : Open) where
   sent-leaves now (some r) = done _ refl
 
   pub link-left : (rates : List ℕ) (now : ℕ) (x : Call) → Leaves (o .link) (onOpen rates now o x)
-  unfolding onOpen onStartFilter onStopFilter onStartPeriodic onStopPeriodic onWrite onRead reading onTake onSent onClear onGet onSet setTo onGetList onSetList onLinkOpen onLinkSend onLinkReceive onLinkEnd withFilters withSending withReceiving withConfig doneWith says
+  unfolding onOpen onRawCall onDecide onStartFilter onStopFilter onStartPeriodic onStopPeriodic onWrite onRead reading onTake onSent onClear onGet onSet setTo onGetList onSetList onLinkOpen onLinkSend onLinkReceive onLinkEnd withFilters withSending withReceiving withConfig doneWith says
   link-left rates now disconnect = done _ refl
   link-left rates now (startFilter t m p) = refused _ _ _ _ (done _ refl) (same _ refl)
   link-left rates now (startFlow t m p f) = refused _ _ _ _ (done _ refl) (same _ refl)
@@ -70,7 +70,8 @@ module _ (o : Open) where
   link-left rates now lastError = same _ refl
   link-left rates now (getList ps) = refused _ _ _ _ (same _ refl) (same _ refl)
   link-left rates now (setList ps) = refused _ _ _ _ (same _ refl) (same _ refl)
-  link-left rates now (linkOpen a) = refused _ _ _ _ (done _ refl) (same _ refl)
-  link-left rates now (linkSend m) = refused _ _ _ _ (done _ refl) (same _ refl)
-  link-left rates now (linkReceive b) = refused _ _ _ _ (done _ refl) (same _ refl)
-  link-left rates now linkEnd = refused _ _ _ _ (done _ refl) (same _ refl)
+  link-left rates now (onRaw (opensLink a)) = refused _ _ _ _ (done _ refl) (same _ refl)
+  link-left rates now (onRaw (sendsLink m)) = refused _ _ _ _ (done _ refl) (same _ refl)
+  link-left rates now (onRaw (receivesLink b)) = refused _ _ _ _ (done _ refl) (same _ refl)
+  link-left rates now (onRaw endsLink) = refused _ _ _ _ (done _ refl) (same _ refl)
+  link-left rates now (onRaw (decides w i)) = refused _ _ _ _ (done _ refl) (same _ refl)
