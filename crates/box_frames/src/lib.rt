@@ -35,7 +35,7 @@ pub fn frame(mem: &mut [u8], line: u32, wide: u32, id: u32, bytes: &[u8]) -> u32
     if index >= LINES {
         return codes::ERR_PIN_INVALID;
     }
-    let code = frames::frame_code(wide, id, bytes);
+    let code = frame_tests::frame_code(wide, id, bytes);
     if code != codes::STATUS_NOERROR {
         return code;
     }

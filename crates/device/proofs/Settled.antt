@@ -1,4 +1,4 @@
--- ANY TWO OUTCOMES OF A PUBLIC CALL ARE EQUAL: said of each of the 25 calls, of connect and set with rates that are lent, and of the look at the
+-- ANY TWO OUTCOMES OF A PUBLIC CALL ARE EQUAL: said of each of the 26 calls, of connect and set with rates that are lent, and of the look at the
 -- memory, over the very postcondition that the function is proved to meet.
 -- An outcome is what the function returns and what it leaves in the memory and in a lent buffer. Assumes nothing.
 use mathlib.Core.Path.{sym, ap, _∙_}
@@ -56,6 +56,9 @@ use Rattle.device_links.proofs.link_receive.Kinds as link-receive-kinds
 use Rattle.device_links.proofs.link_receive.Reads as link-receive
 use Rattle.device_links.proofs.link_end.Kinds as link-end-kinds
 use Rattle.device_links.proofs.link_end.Reads as link-end
+use Rattle.decision.proofs.Numbers.{one-number}
+use Rattle.device_deciding.proofs.decide.Kinds as decide-kinds
+use Rattle.device_deciding.proofs.decide.Reads as decide
 use Rattle.device_lines.proofs.power_on.Kinds as power-on-kinds
 use Rattle.device_lines.proofs.power_on.Reads as power-on
 use Rattle.device_lines.proofs.close.Kinds as close-kinds
@@ -139,6 +142,12 @@ link-receive-settled κs a x y p q = ap (λ (s : Result). (record { code = s .co
 
 pub link-end-settled : OneOutcome 1 link-end-kinds.ps link-end-kinds.r link-end.Post
 link-end-settled κs a x y p q = ap (λ (s : Result). (s .code, (s .memory, x .1 .1))) (p ∙ sym q)
+
+pub decide-settled : OneOutcome 1 decide-kinds.ps decide-kinds.r decide.Post
+decide-settled κs a x y p q =
+    let e = p ∙ sym q in
+    let same = one-number (x .0 .decision) (y .0 .decision) (ap (λ (s : Result). s .value) e) in
+    λ j. (record { code = e j .code; decision = same j }, (e j .memory, x .1 .1))
 
 pub power-on-settled : OneOutcome 1 power-on-kinds.ps power-on-kinds.r power-on.Post
 power-on-settled κs a x y p q = ap (λ (s : Result). (s .code, (s .memory, x .1 .1))) (p ∙ sym q)

@@ -1,13 +1,16 @@
-// The 25 public calls of the box, on any bytes that are lent as its memory: each looks at the memory first, then does the call. The look itself
+// The 26 public calls of the box, on any bytes that are lent as its memory: each looks at the memory first, then does the call. The look itself
 // is `valid`.
 pub use box_places::BOX as MEMORY;
 pub use box_validity::valid;
+pub use decision::Decided;
+pub use decision::Decision;
 pub use device_channels::clear;
 pub use device_channels::connect;
 pub use device_channels::disconnect;
 pub use device_channels::get;
 pub use device_channels::last_error;
 pub use device_channels::set;
+pub use device_deciding::decide;
 pub use device_lines::advance;
 pub use device_lines::close;
 pub use device_lines::frame;

@@ -1,17 +1,14 @@
--- What a frame's tests give, its twelve bytes, and when it is queued. Assumes nothing.
+-- A frame's twelve bytes, and when it is queued. Assumes nothing.
 use mathlib.Core.Path.{_≡_, refl, sym, ap, ap₂, subst, _∙_}
 use Prim.Native.Nat.{ℕ, _+_, _≤_, _<_}
 use mathlib.Core.Bool.{Bool, true, false}
 use mathlib.Core.List.{List, _++_}
 use lib.ListN.{length, take, drop, length-append}
-use lib.Dec.{eqb}
-use borrow.Author.Tests.{lt-ltb, le-ltb}
 use Rattle.codec.specs.Word.{wordAt}
-use Rattle.machine.specs.Codes.{codeOf}
-use Rattle.machine.specs.Limits.{mostData, mostBytes}
-use Rattle.machine.specs.Message.{idLimit, takes, idBytes, twelve, widthFlag, received}
+use Rattle.machine.specs.Limits.{mostData}
+use Rattle.machine.specs.Message.{takes, idBytes, twelve, widthFlag, received}
 use Rattle.machine.specs.Filter.{Slots, Filter, passes}
-use Rattle.machine.specs.Channel.{Chan, frameCode, offered}
+use Rattle.machine.specs.Channel.{Chan, offered}
 use Rattle.layout.specs.Sizes.{filtersAt, filtersSize}
 use Rattle.layout.specs.Memory.{filters, region}
 use Rattle.layout.specs.Promise.{Opened}
@@ -19,25 +16,6 @@ use Rattle.layout.proofs.Region.{openOf, kept, is-open, word-of, flags-part, fi
 use Rattle.records.specs.Cell.{padded}
 use Rattle.queue.specs.Queue.{arrived}
 use Rattle.verdict.proofs.Frame.{of-its-row, within-its-row}
-
--- ---- the tests
-
-module _ (w id : ℕ) (b : List ℕ) where
-  pub bad-width : 1 < w → 0x0A ≡ frameCode w id b
-  unfolding frameCode codeOf
-  bad-width h = rw (lt-ltb 1 w h)
-
-  pub bad-id : w ≤ 1 → idLimit (eqb w 1) < id → 0x0A ≡ frameCode w id b
-  unfolding frameCode codeOf
-  bad-id h g = rw (le-ltb 1 w h) (rw (lt-ltb (idLimit (eqb w 1)) id g) refl)
-
-  pub bad-length : w ≤ 1 → id ≤ idLimit (eqb w 1) → mostBytes < length b → 0x0A ≡ frameCode w id b
-  unfolding frameCode codeOf
-  bad-length h g l = rw (le-ltb 1 w h) (rw (le-ltb (idLimit (eqb w 1)) id g) (rw (lt-ltb mostBytes (length b) l) refl))
-
-  pub good-frame : w ≤ 1 → id ≤ idLimit (eqb w 1) → length b ≤ mostBytes → 0x00 ≡ frameCode w id b
-  unfolding frameCode codeOf
-  good-frame h g l = rw (le-ltb 1 w h) (rw (le-ltb (idLimit (eqb w 1)) id g) (rw (le-ltb mostBytes (length b) l) refl))
 
 -- ---- twelve bytes, as a record has them
 

@@ -18,7 +18,7 @@ use Rattle.link_layout.specs.Connection.{connectionPart}
 use Rattle.link_layout.specs.Turned.{LinkPart}
 use Rattle.machine.specs.Codes.{codeOf}
 use Rattle.machine.specs.Message.{takes}
-use Rattle.machine.specs.Channel.{Open, opened, withLink, Outcome, says, unless, doneWith, onOpen, linkCode, onLinkOpen, onLinkSend, onLinkReceive, onLinkEnd, linkOpen, linkSend, linkReceive, linkEnd}
+use Rattle.machine.specs.Channel.{Open, opened, withLink, Outcome, says, unless, doneWith, onOpen, linkCode, onLinkOpen, onLinkSend, onLinkReceive, onLinkEnd, onRawCall, linkOpen, linkSend, linkReceive, linkEnd}
 use Rattle.layout.specs.Sizes.{flagsAt, linkAt}
 use Rattle.layout.specs.Promise.{gives, Opened, callOutcome}
 use Rattle.layout.proofs.Places.{fl}
@@ -64,7 +64,7 @@ module _ {r : List ℕ} (f : Opened r) where
     module _ (a : Asked) where
       open-by : {x y z : Bool} → Narrow x → askedFits a ≡ y → eqb (stateOf (o .link)) 0 ≡ z
           → onOpen rates t o (linkOpen a) ≡ unless (codeOf ((not x, 0x0A) ∷ (not y, 0x0A) ∷ (not z, 0x14) ∷ [])) (opened o) [] (doneWith (opened (withLink o (opening a 0 waits))) 0)
-      unfolding onOpen onLinkOpen linkCode
+      unfolding onOpen onRawCall onLinkOpen linkCode
       open-by ex ey ez = λ j. unless (codeOf ((not (sym ex j), 0x0A) ∷ (not (ey j), 0x0A) ∷ (not (ez j), 0x14) ∷ [])) (opened o) [] (doneWith (opened (withLink o (opening a 0 waits))) 0)
 
       pub open-wide : Narrow false → gives 0x0A 0 [] r ≡ callOutcome rates t r (linkOpen a)
@@ -90,7 +90,7 @@ module _ {r : List ℕ} (f : Opened r) where
     module _ (m : List ℕ) where
       send-by : {x y z w : Bool} → Narrow x → eqb (stateOf (o .link)) 3 ≡ y → within 1 longest (length m) ≡ z → busy (o .link) ≡ w
           → onOpen rates t o (linkSend m) ≡ unless (codeOf ((not x, 0x0A) ∷ (not y, 0x07) ∷ (not z, 0x0A) ∷ (w, 0x11) ∷ [])) (opened o) [] (doneWith (opened (withLink o (begin m (o .link)))) 0)
-      unfolding onOpen onLinkSend linkCode
+      unfolding onOpen onRawCall onLinkSend linkCode
       send-by ex ey ez ew = λ j. unless (codeOf ((not (sym ex j), 0x0A) ∷ (not (ey j), 0x07) ∷ (not (ez j), 0x0A) ∷ (ew j, 0x11) ∷ [])) (opened o) [] (doneWith (opened (withLink o (begin m (o .link)))) 0)
 
       pub send-wide : Narrow false → gives 0x0A 0 [] r ≡ callOutcome rates t r (linkSend m)
@@ -135,7 +135,7 @@ module _ {r : List ℕ} (f : Opened r) where
 
       receive-by : {x y z w : Bool} → ltb (length b) longest ≡ x → Narrow y → eqb (stateOf (o .link)) 3 ≡ z → eqb (length (whole (o .link))) 0 ≡ w
           → onOpen rates t o (linkReceive b) ≡ unless (codeOf ((x, 0x04) ∷ (not y, 0x0A) ∷ (not z, 0x07) ∷ (w, 0x10) ∷ [])) (opened o) b (fetches (o .link))
-      unfolding onOpen onLinkReceive
+      unfolding onOpen onRawCall onLinkReceive
       receive-by ex ey ez ew = λ j. unless (codeOf ((ex j, 0x04) ∷ (not (sym ey j), 0x0A) ∷ (not (ez j), 0x07) ∷ (ew j, 0x10) ∷ [])) (opened o) b (fetches (o .link))
 
       pub receive-short : length b < longest → gives 0x04 0 b r ≡ callOutcome rates t r (linkReceive b)
@@ -179,7 +179,7 @@ module _ {r : List ℕ} (f : Opened r) where
     -- ---- end
 
     end-by : {x y : Bool} → Narrow x → within 1 3 (stateOf (o .link)) ≡ y → onOpen rates t o linkEnd ≡ unless (codeOf ((not x, 0x0A) ∷ (not y, 0x07) ∷ [])) (opened o) [] (doneWith (opened (withLink o (ended (o .link)))) 0)
-    unfolding onOpen onLinkEnd linkCode
+    unfolding onOpen onRawCall onLinkEnd linkCode
     end-by ex ey = λ j. unless (codeOf ((not (sym ex j), 0x0A) ∷ (not (ey j), 0x07) ∷ [])) (opened o) [] (doneWith (opened (withLink o (ended (o .link)))) 0)
 
     pub end-wide : Narrow false → gives 0x0A 0 [] r ≡ callOutcome rates t r linkEnd

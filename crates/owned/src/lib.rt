@@ -4,6 +4,7 @@ pub use box_channels::disconnect;
 pub use box_channels::get;
 pub use box_channels::set;
 pub use box_connecting::connect;
+pub use box_deciding::decide;
 pub use box_frames::frame;
 pub use box_lines::close;
 pub use box_links::link_end;

@@ -57,6 +57,8 @@ use Rattle.passthru.proofs.trawl_link_send.Kinds as trawl-link-send-kin
 use Rattle.passthru.proofs.trawl_link_send.Reads as trawl-link-send
 use Rattle.passthru.proofs.trawl_link_end.Kinds as trawl-link-end-kinds
 use Rattle.passthru.proofs.trawl_link_end.Reads as trawl-link-end
+use Rattle.passthru.proofs.trawl_decide.Kinds as trawl-decide-kinds
+use Rattle.passthru.proofs.trawl_decide.Reads as trawl-decide
 use Rattle.passthru.proofs.trawl_clear.Kinds as trawl-clear-kinds
 use Rattle.passthru.proofs.trawl_clear.Reads as trawl-clear
 use Rattle.passthru.proofs.trawl_get.Kinds as trawl-get-kinds
@@ -134,6 +136,9 @@ trawl-link-send-settled κs a x y p q = alike (p ∙ sym q) (λ s. (s .code, (s 
 
 pub trawl-link-receive-settled : OneOutcome 3 trawl-link-receive-kinds.ps trawl-link-receive-kinds.r trawl-link-receive.Post
 trawl-link-receive-settled κs a x y p q = alike (p ∙ sym q) (λ s. (s .code, (s .memory, (tt, (s .buffer, (s .value, tt))))))
+
+pub trawl-decide-settled : OneOutcome 2 trawl-decide-kinds.ps trawl-decide-kinds.r trawl-decide.Post
+trawl-decide-settled κs a x y p q = alike (p ∙ sym q) (λ s. (s .code, (s .memory, (tt, (tt, (tt, (s .value, tt)))))))
 
 pub trawl-link-end-settled : OneOutcome 1 trawl-link-end-kinds.ps trawl-link-end-kinds.r trawl-link-end.Post
 trawl-link-end-settled κs a x y p q = alike (p ∙ sym q) (λ s. (s .code, (s .memory, x .1 .1)))

@@ -4,7 +4,7 @@ ghost use mathlib.Core.List.{[]};
 ghost use mathlib.Core.Bool.{not};
 ghost use lib.Dec.{eqb};
 ghost use Rattle.machine.specs.Codes.{twoRates};
-ghost use Rattle.machine.specs.Channel.{disconnect, clear, write, read, takeNext, sent, startFilter, startFlow, stopFilter, startPeriodic, stopPeriodic, getParameter, setParameter, lastError, getList, setList, flat, linkOpen, linkSend, linkReceive, linkEnd};
+ghost use Rattle.machine.specs.Channel.{disconnect, clear, write, read, takeNext, sent, startFilter, startFlow, stopFilter, startPeriodic, stopPeriodic, getParameter, setParameter, lastError, getList, setList, flat, linkOpen, linkSend, linkReceive, linkEnd, decide};
 ghost use Rattle.machine.specs.Step.{call, connect, close, advance, frame};
 ghost use Rattle.layout.specs.Promise.{gives};
 ghost use Rattle.memory.specs.Memory.{valid};
@@ -254,6 +254,23 @@ pub extern "C" fn trawl_last_error(mem: &[u8], channel: u32, code: &mut u32) -> 
     let answer = device::last_error(mem, channel);
     *code = answer.value;
     answer.code
+}
+
+// What becomes of every frame of a width with an identifier: 0 dropped, 1 passes, 2 the data must be seen.
+#[no_mangle]
+pub extern "C" fn trawl_decide(
+    mem: &mut [u8],
+    channel: u32,
+    wide: u32,
+    id: u32,
+    answer: &mut u32,
+) -> u32
+    ensures { λ c. ⌜ gives c (now (answer .exit)) [] (now (mem .exit)) ≡ outcome twoRates (now (mem .entry)) (call channel (decide wide id)) ⌝ }
+{
+    let decided = device::decide(mem, channel, wide, id);
+    let told = decided.decision;
+    *answer = decision::number_of(told);
+    decided.code
 }
 
 // Asks for a TP2.0 connection on a raw channel's line.

@@ -3,7 +3,7 @@ use mathlib.Core.Path.{_≡_, refl}
 use mathlib.Core.List.{[]}
 use native.Mathlib.Omega.{arith}
 use lib.ListN.{length}
-use Rattle.machine.specs.Channel.{lent}
+use Rattle.machine.specs.Channel.{lent, rawLent}
 use Rattle.layout.specs.Sizes.{regionSize}
 use Rattle.memory.proofs.Seats.{raw-ends, raw-lent, raw-noted, raw-called}
 use borrow.Author.Needs.{needs}
@@ -27,7 +27,7 @@ returns-2 c rates =
     raw-called _ (at .before .before .before .pre) _ _ seat rates _ _ _ _ _ _ long (did .open .ensures rates _) (c .before .before .note .ensures)
 
 pub link-open-spec : {M : Type 1} → statement M
-unfolding lent
+unfolding lent rawLent
 link-open-spec =
     tie.close
     (tie.spec

@@ -1,10 +1,11 @@
+-- `frame_tests::frame_code` meets its contract. Assumes nothing.
 use mathlib.Core.Path.{subst}
 use Prim.Native.Nat.{ℕ, _<_, _≤_}
 use denote.Ref.{now}
-use Rattle.frames.proofs.Laws.{bad-width, bad-id, bad-length, good-frame}
+use Rattle.frame_tests.proofs.Laws.{bad-width, bad-id, bad-length, good-frame}
 use borrow.Author.Needs.{needs}
-use Rattle.frames.proofs.frame_code.Statement.{statement}
-use Rattle.frames.proofs.frame_code.Tie as tie
+use Rattle.frame_tests.proofs.frame_code.Statement.{statement}
+use Rattle.frame_tests.proofs.frame_code.Tie as tie
 
 returns : tie.Need-returns
 returns c =
