@@ -46,7 +46,7 @@ extern "C" {
 /* The version of this header and of the archive built from the same sources. The first number changes when a program or a kept memory that was
  * good may be so no more, the second when something is added, the third with everything else. TRAWL_VERSION is for comparing. */
 #define TRAWL_VERSION_MAJOR 6
-#define TRAWL_VERSION_MINOR 0
+#define TRAWL_VERSION_MINOR 1
 #define TRAWL_VERSION_PATCH 0
 #define TRAWL_VERSION (TRAWL_VERSION_MAJOR * 10000 + TRAWL_VERSION_MINOR * 100 + TRAWL_VERSION_PATCH)
 
@@ -68,7 +68,7 @@ extern "C" {
 /* Codes, by J2534-1's names. */
 #define TRAWL_STATUS_NOERROR 0x00u
 #define TRAWL_ERR_NOT_SUPPORTED 0x01u         /* unknown configuration parameter; a periodic on channels 5 to 8 */
-#define TRAWL_ERR_INVALID_CHANNEL_ID 0x02u    /* channel number not 1 to 8 (TP2.0: 1 to 4), or not open */
+#define TRAWL_ERR_INVALID_CHANNEL_ID 0x02u    /* channel number not 1 to 8 (TP2.0, decide: 1 to 4), or not open */
 #define TRAWL_ERR_INVALID_PROTOCOL_ID 0x03u   /* connect: protocol is not 5 or 6 */
 #define TRAWL_ERR_NULL_PARAMETER 0x04u        /* lent buffer too short (TP2.0: under 512); a list of more than 16 pairs */
 #define TRAWL_ERR_INVALID_IOCTL_VALUE 0x05u   /* bad value for a known parameter */
@@ -106,6 +106,11 @@ extern "C" {
 #define TRAWL_TX_MSG_TYPE 0x1u
 #define TRAWL_START_OF_MESSAGE 0x2u
 #define TRAWL_TX_INDICATION 0x8u
+
+/* The answers of trawl_decide. */
+#define TRAWL_DROPPED 0u
+#define TRAWL_PASSES 1u
+#define TRAWL_MUST_SEE 2u
 
 /* What a clear empties: the kinds that trawl_clear takes. J2534-1's own numbers for the same are those of four IOCTLs, and trawl_clear takes
  * them for unknown kinds (0x0F):
@@ -496,6 +501,19 @@ uint32_t trawl_set_list(uint8_t *memory, size_t memory_length, uint32_t channel,
  * written. With no pairs the answer is 0x00.
  * Codes: 0x1A; 0x02; 0x04 more than 16 pairs, and none is written; then for each pair 0x01 another parameter. */
 uint32_t trawl_get_list(uint8_t *memory, size_t memory_length, uint32_t channel, struct trawl_pair *pairs, size_t count);
+
+/* Decides on the identifier alone, for a controller that shows it before the data: what the filters of a raw channel, 1 to 4, say of every frame
+ * of a width (wide is 0 or 1) with an identifier, whatever its data of 0 to 8 bytes. Gives TRAWL_PASSES where all of them are let in,
+ * TRAWL_DROPPED where none is, and TRAWL_MUST_SEE where it takes the data: then there are data that are let in and data that are not. Block filters
+ * that only together keep all out count, and so does the frame without data. A width that the connection doesn't take is TRAWL_DROPPED.
+ *   - The answer is about the filters as they are now, and nothing else: full queues, loopback and the lost mark play no part. It holds until a
+ *   filter is started, stopped or cleared, or the channel is disconnected.
+ *   - DROPPED SPEAKS OF THE RAW FILTERS ALONE. While the ISO 15765 channel of the line is open, or the raw channel has a TP2.0 connection (which
+ *   hears narrow frames), they may need a frame that the filters drop: call trawl_frame all the same. Else a dropped frame need not be brought.
+ *   One that passes is brought as ever: this call queues nothing.
+ *   - A refusal becomes the channel's last code; else nothing but the answer is written.
+ * Codes: 0x1A; 0x02 channel not 1 to 4, or not open; 0x0A wide over 1, identifier over 0x7FF or (wide) 0x1FFFFFFF. */
+uint32_t trawl_decide(uint8_t *memory, size_t memory_length, uint32_t channel, uint32_t wide, uint32_t identifier, uint32_t *answer);
 
 /* Opens a TP2.0 connection on channels 1 to 4: the set-up telegram waits at take. own is the box's identifier, 0x200 to 0x2EF; destination the
  * module's address, 0x00 to 0xEF; rx_id the identifier that the module is to send with, 0 to 0x7FF; application 0x01, 0x10, 0x20 or 0x21; block_size

@@ -1,6 +1,7 @@
 /* The core against the twin in one run: nanoseconds a call, best of many, and the ratio. `bench [RUNS]`. Devices: idle (four raw channels, nothing
  * else), typical (three filters, three records, two periodics and two written records a raw channel), full, both (typical, and the four ISO 15765
- * channels with two conversations each under way), and linked (idle, and on each raw channel a TP2.0 connection that stands). */
+ * channels with two conversations each under way), linked (idle, and on each raw channel a TP2.0 connection that stands), and hard (idle, and on each
+ * raw channel the ten filters that are hardest to decide on by the identifier alone). */
 #define _POSIX_C_SOURCE 199309L
 #include <stdio.h>
 #include <stdlib.h>
@@ -8,6 +9,7 @@
 #include <time.h>
 
 #include "../../include/trawlpepper.h"
+#include "../tests/hardest.h"
 #include "../twin/replay.h"
 #include "../twin/twin.h"
 
@@ -59,6 +61,17 @@ static void device(uint8_t *m, uint32_t filters, uint32_t records, uint32_t peri
         for (uint32_t i = 0; i < records; i++) twin_frame(m, MEMORY, line, 0, 0x7E8, data8, 8);
         for (uint32_t i = 0; i < periodics; i++) twin_start_periodic(m, MEMORY, line + 1, message, 36, 5 + i, &v);
         for (uint32_t i = 0; i < written; i++) twin_write(m, MEMORY, line + 1, 1, message, 36, &v);
+    }
+}
+
+/* ten filters a channel that the decision on the identifier alone takes the most looks for */
+static void hardest_filters(uint8_t *m) {
+    uint8_t mask[36], pattern[36];
+    uint32_t v;
+    record(mask, HARDEST_SIZE, 0), record(pattern, HARDEST_SIZE, 0);
+    for (uint32_t i = 0; i < 4 * HARDEST; i++) {
+        memcpy(mask + 28, hardest[i / 4].mask, HARDEST_DATA), memcpy(pattern + 28, hardest[i / 4].pattern, HARDEST_DATA);
+        twin_start_filter(m, MEMORY, 1 + i % 4, hardest[i / 4].type, mask, 36, pattern, 36, &v);
     }
 }
 
@@ -224,6 +237,20 @@ static void tp20(const uint8_t *idle) {
     row("message of 512, sent", core_link_out, twin_run_link_out, linked, TELEGRAMS);
 }
 
+/* and what is left of the hardest without the look at the memory, which is measured by itself on the same device */
+static void deciding(const uint8_t *idle, const uint8_t *typical) {
+    static uint8_t hard[MEMORY];
+    double a, b, look_a, look_b;
+    memcpy(hard, idle, MEMORY), hardest_filters(hard);
+    printf("\non the identifier alone: ns a call core   twin    ratio   (validating)\n");
+    row("decide, no filters", core_decide, twin_run_decide, idle, 0);
+    row("decide, typical", core_decide, twin_run_decide, typical, 0);
+    row("decide, worst (511 looks)", core_decide, twin_run_decide, hard, 0);
+    measure(core_decide, twin_run_decide, hard, &a, &b);
+    measure(core_valid, (loop)twin_run_valid, hard, &look_a, &look_b);
+    printf("  %-28s %8.1f %8.1f %8.2f   worst less valid\n", "decide, worst, by itself", a - look_a, b - look_b, (a - look_a) / (b - look_b));
+}
+
 static void growth(void) {
     static uint8_t base[MEMORY];
     double a, b;
@@ -374,6 +401,7 @@ int main(int argc, char **argv) {
     calls("idle", idle), calls("typical", typical), calls("full", full);
     eight(idle);
     tp20(idle);
+    deciding(idle, typical);
     growth();
     printf("\nreplayed, inner calls: ns an event  core   twin    ratio\n");
     inner("frames and reads, 3 filters", frames, 6, 3);

@@ -97,6 +97,12 @@ static unsigned SIDE(last_error)(uint8_t *m) {
     return 16;
 }
 
+static unsigned SIDE(decide)(uint8_t *m) {
+    uint32_t v;
+    for (uint32_t i = 0; i < 16; i++) keep(CALL(decide)(m, MEMORY, 1 + (i & 3), 0, i & 4 ? 0x7E8 : 0x123, &v) + v);
+    return 16;
+}
+
 static unsigned SIDE(clear)(uint8_t *m) {
     for (uint32_t i = 0; i < 16; i++) keep(CALL(clear)(m, MEMORY, 1 + (i & 3), 1 + i / 4));
     return 16;

@@ -109,6 +109,7 @@ static reply both(event *e, uint64_t turn) {
         if (memcmp(mine.first.room, e->first.room, sizeof mine.first.room)) fail("a refusal changed a buffer", e, turn);
         if (a.value != 0) fail("a refusal gave a number", e, turn);
     }
+    if (e->kind == DECIDE && a.code == 0x00 && memcmp(before, core, TRAWL_MEMORY)) fail("deciding changed the memory", e, turn);
     if (is_list(e)) one_by_one(before, e, &mine.first, a, turn);
     b = on_twin(twin, TRAWL_MEMORY, e);
     if (a.code != b.code) fail("code", e, turn);
@@ -470,7 +471,7 @@ static uint32_t concerned(const event *e) {
     if (e->kind == ADVANCE || e->kind == CLOSE) return 0x1FE;
     if (e->kind == FRAME) return e->a > 3 ? 0 : 0x22u << e->a;
     if (e->kind == CONNECT) return connects(e) ? 1u << connects(e) : 0;
-    if (is_link(e->kind) && is_iso(e->a)) return 0;
+    if (raw_only(e->kind) && is_iso(e->a)) return 0;
     return is_channel(e->a) ? 1u << e->a : 0;
 }
 

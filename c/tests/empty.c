@@ -100,6 +100,7 @@ int main(void) {
     NONE_ALONE(trawl_link_send(NULL, 0, 1, NULL, 0));
     NONE(trawl_link_receive(NULL, 0, 1, NULL, 0, &v), v);
     NONE_ALONE(trawl_link_end(NULL, 0, 1));
+    NONE(trawl_decide(NULL, 0, 1, 0, 0, &v), v);
 
     must(trawl_power_on(box, sizeof box) == 0 && trawl_connect(box, sizeof box, 0, 5, 0, 500000, &v) == 0, "connect");
     trawl_record_make(record, 0, 0, NULL, 0);

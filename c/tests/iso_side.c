@@ -33,13 +33,14 @@ static const side twin = {
     "the twin", TWIN_MEMORY, RAW_PART, ISO_REGION, RAW_REGION, RAW_LAST, LINK_AT,
     twin_valid, twin_power_on, twin_connect, twin_disconnect, twin_close, twin_advance, twin_frame, twin_start_flow_filter, twin_stop_filter,
     twin_start_periodic, twin_stop_periodic, twin_write, twin_read, twin_take, twin_sent, twin_clear, twin_get, twin_set, twin_set_list,
-    twin_get_list, twin_last_error, twin_link_open, twin_link_send, twin_link_receive, twin_link_end};
+    twin_get_list, twin_last_error, twin_link_open, twin_link_send, twin_link_receive, twin_link_end, twin_decide};
 
 static const side core = {
     "the core", TRAWL_MEMORY, RAW_PART, ISO_REGION, RAW_REGION, RAW_LAST, LINK_AT,
     core_valid, trawl_power_on, trawl_connect, trawl_disconnect, trawl_close, trawl_advance, trawl_frame, trawl_start_flow_filter,
     trawl_stop_filter, trawl_start_periodic, trawl_stop_periodic, trawl_write, trawl_read, trawl_take, trawl_sent, trawl_clear, trawl_get,
-    trawl_set, core_set_list, core_get_list, trawl_last_error, trawl_link_open, trawl_link_send, trawl_link_receive, trawl_link_end};
+    trawl_set, core_set_list, core_get_list, trawl_last_error, trawl_link_open, trawl_link_send, trawl_link_receive, trawl_link_end,
+    trawl_decide};
 
 const side *const sides[] = {&core, &twin, NULL};
 

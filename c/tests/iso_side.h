@@ -42,6 +42,7 @@ typedef struct {
     uint32_t (*link_send)(uint8_t *m, size_t len, uint32_t channel, const uint8_t *message, size_t message_len);
     uint32_t (*link_receive)(uint8_t *m, size_t len, uint32_t channel, uint8_t *b, size_t b_len, uint32_t *length);
     uint32_t (*link_end)(uint8_t *m, size_t len, uint32_t channel);
+    uint32_t (*decide)(uint8_t *m, size_t len, uint32_t channel, uint32_t wide, uint32_t id, uint32_t *answer);
 } side;
 
 extern const side *const sides[]; /* the core, the twin, then NULL; their memories lie alike */

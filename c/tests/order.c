@@ -437,6 +437,27 @@ static void connection(void) {
     NOTES(NARROW, 0x14, trawl_link_open(BOX, NARROW, 0x200, 0x01, 0x300, 0x01, 15, 0x8A, 0x00)); /* its disconnect telegram waits */
 }
 
+/* channel, then width mark and identifier; a width that isn't taken is no fault */
+static void deciding(void) {
+    GIVES(0x1A, trawl_decide(BROKEN, NONE, 2, 0x800, &number));
+    GIVES(0x1A, trawl_decide(SHORT, NONE, 2, 0x800, &number));
+    GIVES(0x02, trawl_decide(BOX, NONE, 2, 0x800, &number));
+    GIVES(0x02, trawl_decide(BOX, 0, 2, 0x800, &number));
+    GIVES(0x02, trawl_decide(BOX, CLOSED, 2, 0x800, &number));
+    GIVES(0x02, trawl_decide(BOX, TALKS, 2, 0x800, &number)); /* open, but no raw channel */
+    NOTES(NARROW, 0x0A, trawl_decide(BOX, NARROW, 2, 0x7FF, &number));
+    NOTES(NARROW, 0x0A, trawl_decide(BOX, NARROW, 256, 0x7FF, &number));
+    NOTES(NARROW, 0x0A, trawl_decide(BOX, NARROW, 0, 0x800, &number));
+    NOTES(WIDE, 0x0A, trawl_decide(BOX, WIDE, 0, 0x800, &number)); /* also in a width that isn't taken */
+    NOTES(WIDE, 0x0A, trawl_decide(BOX, WIDE, 1, 0x20000000, &number));
+    NOTES(WIDE, 0x00, trawl_decide(BOX, WIDE, 0, 0x7FF, &number));
+    must(number == TRAWL_DROPPED, "a width that isn't taken");
+    NOTES(BOTH, 0x00, trawl_decide(BOX, BOTH, 0, 0x7FF, &number));
+    must(number == TRAWL_DROPPED, "no narrow filter");
+    NOTES(BOTH, 0x00, trawl_decide(BOX, BOTH, 1, 0x1FFFFFFF, &number));
+    must(number == TRAWL_PASSES, "a filter for all wide frames");
+}
+
 /* refused before any pair is done, or at the first: nothing but the last code changes, and the lists stay */
 static void lists(void) {
     static const struct trawl_pair seventeen[17] = {{2, 9}, {1, 9}, {3, 1}}, value[3] = {{1, 9}, {2, 9}, {3, 1}}, old[1] = {{1, 125000}};
@@ -508,6 +529,7 @@ int main(void) {
     told();
     opening();
     connection();
+    deciding();
     settings();
     printf("codes in the header's order: %lu looks\n", held);
     return 0;

@@ -1,6 +1,7 @@
-/* How much stack each call takes: `stack [MOST]`. Each call runs on a painted stack of its own, on a box that is idle, idle with connections, full,
- * full without a frame in flight, and broken; the deepest byte that was written counts, less what an empty function takes. With a number it fails
- * where a call takes more. */
+/* How much stack each call takes: `stack [MOST DECIDE]`. Each call runs on a painted stack of its own, on a box that is idle, idle with connections, full,
+ * full without a frame in flight, with the filters that are hardest to decide on, and broken; the deepest byte that was written counts, less what an
+ * empty function takes. With numbers it fails where a call takes more than the first, or decide, which has a function that calls itself, more than the
+ * second. */
 #define _XOPEN_SOURCE 700
 #include <stdio.h>
 #include <stdlib.h>
@@ -9,10 +10,12 @@
 
 #define TRAWL_NO_J2534_NAMES
 #include "../../include/trawlpepper.h"
+#include "hardest.h"
 
 enum { STACK = 131072 };
 
-static uint8_t idle[TRAWL_MEMORY], linked[TRAWL_MEMORY], full[TRAWL_MEMORY], ready[TRAWL_MEMORY], broken[TRAWL_MEMORY], box[TRAWL_MEMORY];
+static uint8_t idle[TRAWL_MEMORY], linked[TRAWL_MEMORY], full[TRAWL_MEMORY], ready[TRAWL_MEMORY], hard[TRAWL_MEMORY], broken[TRAWL_MEMORY],
+    box[TRAWL_MEMORY];
 static uint8_t message[TRAWL_RECORD], many[40 * TRAWL_RECORD], mask[TRAWL_ISO_RECORD], partner[TRAWL_ISO_RECORD], own[TRAWL_ISO_RECORD];
 static uint8_t messages[9 * TRAWL_ISO_RECORD], telegram[TRAWL_TELEGRAM], eight[8], out[2 * TRAWL_EVENT_ROOM];
 static const uint8_t recording[] = {1, 0, 5, 0, 0xA0, 0xC2, 0x1E, 4, 1, 5, 0, 0, 1, 2, 1, 2, 11, 1, 1, 12, 1, 13, 1, 14, 1, 1, 15, 1, 1,
@@ -69,6 +72,7 @@ static void do_link_acknowledge(void) { trawl_frame(BOX, 0, 0, 0x300, (const uin
 static void do_link_data(void) { trawl_frame(BOX, 2, 0, 0x300, (const uint8_t *)"\x10\1\2\3\4\5\6\7", 8); }
 static void do_link_break(void) { trawl_frame(BOX, 0, 0, 0x300, (const uint8_t *)"\xA4", 1); }
 static void do_link_reply(void) { trawl_frame(BOX, 1, 0, 0x201, (const uint8_t *)"\0\xD0\0\3\x40\7\1", 7); }
+static void do_decide(void) { trawl_decide(BOX, 1, 0, 0x7E8, &number); }
 static void do_read_telegram(void) { trawl_read_telegram(0, 0, (const uint8_t *)"\xA0\x0F\x8A\xFF\x32\xFF", 6, telegram, sizeof telegram); }
 static void do_write_telegram(void) { trawl_write_telegram(telegram, sizeof telegram, eight, 8, &number); }
 static void do_time(void) { number = trawl_time(0x8A); }
@@ -88,7 +92,7 @@ static const struct {
              {"clear, ISO", do_iso_clear}, {"disconnect, ISO", do_iso_disconnect}, {"set_list, ISO", do_iso_set_list},
              {"link_open", do_link_open}, {"link_send", do_link_send}, {"link_receive", do_link_receive}, {"link_end", do_link_end},
              {"take, TP2.0", do_link_take}, {"sent, TP2.0", do_link_sent}, {"frame, acknowledge", do_link_acknowledge},
-             {"frame, data", do_link_data}, {"frame, break", do_link_break}, {"frame, reply", do_link_reply},
+             {"frame, data", do_link_data}, {"frame, break", do_link_break}, {"frame, reply", do_link_reply}, {"decide", do_decide},
              {"read_telegram", do_read_telegram}, {"write_telegram", do_write_telegram}, {"time", do_time}, {"replay", do_replay}};
 
 /* ---- a painted stack ---- */
@@ -145,6 +149,17 @@ static void links(uint8_t *m) {
     trawl_frame(m, TRAWL_MEMORY, 0, 0, 0x300, (const uint8_t *)"\x30\1\2\3\4\5\6\7", 8);
 }
 
+/* channel 1 with the filters that are hardest to decide on */
+static void hardest_filters(uint8_t *m) {
+    uint8_t pattern[TRAWL_RECORD], looks[TRAWL_RECORD];
+    uint32_t v, i;
+    for (i = 0; i < HARDEST; i++) {
+        trawl_record_make(looks, 0, 0, hardest[i].mask, HARDEST_DATA);
+        trawl_record_make(pattern, 0, 0, hardest[i].pattern, HARDEST_DATA);
+        trawl_start_filter(m, TRAWL_MEMORY, 1, hardest[i].type, looks, sizeof looks, pattern, sizeof pattern, &v);
+    }
+}
+
 static void boxes(void) {
     static const uint8_t data[8] = {1, 2, 3, 4, 5, 6, 7, 8};
     uint32_t v, i;
@@ -157,6 +172,8 @@ static void boxes(void) {
     for (i = 0; i < 3; i++) trawl_connect(idle, sizeof idle, i, 5, 0, 500000, &v), trawl_connect(idle, sizeof idle, i, 6, 0, 500000, &v);
     memcpy(linked, idle, sizeof linked);
     links(linked);
+    memcpy(hard, idle, sizeof hard);
+    hardest_filters(hard);
     memcpy(full, linked, sizeof full);
     for (i = 0; i < 3; i++) {
         trawl_set(full, sizeof full, i + 1, 3, 1);
@@ -177,13 +194,13 @@ static void boxes(void) {
 }
 
 int main(int argc, char **argv) {
-    static uint8_t *const states[5] = {idle, linked, full, ready, broken};
-    size_t most = 0, base, k;
+    static uint8_t *const states[6] = {idle, linked, full, ready, hard, broken};
+    size_t most = 0, decide = 0, base, k;
     boxes();
     base = depth(nothing);
     for (k = 0; k < sizeof calls / sizeof *calls; k++) {
         size_t deepest = 0, s;
-        for (s = 0; s < 5; s++) {
+        for (s = 0; s < 6; s++) {
             size_t d;
             memcpy(box, states[s], sizeof box);
             d = depth(calls[k].call);
@@ -191,9 +208,10 @@ int main(int argc, char **argv) {
             if (d > deepest) deepest = d;
         }
         if (argc == 1) printf("%-18s %5lu\n", calls[k].name, (unsigned long)deepest);
-        if (deepest > most) most = deepest;
+        if (calls[k].call == do_decide) decide = deepest;
+        else if (deepest > most) most = deepest;
     }
-    printf("stack: %lu bytes at most\n", (unsigned long)most);
-    if (argc > 1 && most > strtoul(argv[1], NULL, 10)) return 1;
+    printf("stack: %lu bytes at most, decide %lu\n", (unsigned long)most, (unsigned long)decide);
+    if (argc > 2 && (most > strtoul(argv[1], NULL, 10) || decide > strtoul(argv[2], NULL, 10))) return 1;
     return 0;
 }

@@ -119,7 +119,8 @@ static void some_three(uint8_t *mask, uint8_t *pattern, uint8_t *flow, int damag
 const char *name_of(int kind) {
     static const char *const names[] = {"-", "connect", "disconnect", "close", "advance", "frame", "start filter", "stop filter",
                                         "start periodic", "stop periodic", "write", "read", "take", "sent", "clear", "get", "set",
-                                        "set list", "get list", "last error", "start flow filter", "link open", "link send", "link receive", "link end"};
+                                        "set list", "get list", "last error", "start flow filter", "link open", "link send", "link receive", "link end",
+                                        "decide"};
     return names[kind];
 }
 
@@ -158,7 +159,7 @@ void connect_event(event *e, uint32_t line, uint32_t protocol, uint32_t flags, u
     e->kind = CONNECT, e->a = line, e->b = protocol, e->c = flags, e->d = rate;
 }
 
-int is_link(int kind) { return kind >= LINK_OPEN && kind <= LINK_END; }
+int raw_only(int kind) { return kind >= LINK_OPEN; }
 
 void link_event(event *e, uint32_t channel, uint32_t block_size, uint32_t t1, uint32_t t3) {
     connect_event(e, channel, 0x200, 0x01, 0x300);
@@ -196,14 +197,14 @@ void random_event(event *e, int damage) {
     static const int often[] = {CONNECT,    DISCONNECT,     ADVANCE, ADVANCE, FRAME, FRAME, FRAME, FRAME, FRAME, FRAME, FRAME, FRAME, START_FILTER,
                                 STOP_FILTER, START_PERIODIC, STOP_PERIODIC, WRITE, WRITE, READ,  READ,  TAKE,  TAKE,  SENT,  SENT,  CLEAR,
                                 GET,        SET,            SET,     START_FILTER, START_PERIODIC, CONNECT, LAST_ERROR, SET_LIST,
-                                GET_LIST,   LINK_OPEN,      LINK_OPEN, LINK_SEND, LINK_SEND, LINK_RECEIVE, LINK_RECEIVE, LINK_END};
+                                GET_LIST,   LINK_OPEN,      LINK_OPEN, LINK_SEND, LINK_SEND, LINK_RECEIVE, LINK_RECEIVE, LINK_END, DECIDE, DECIDE};
     uint32_t channel = off(chance(60) ? 1 + below(4) : 5 + below(4), damage / 4), flags, n, size = (uint32_t)record_of(channel);
     connect_event(e, 0, 0, 0, 0);
     e->kind = chance(1) ? (chance(10) ? CLOSE : DISCONNECT) : often[below(sizeof often / sizeof *often)];
     if (e->kind == DISCONNECT && chance(80)) e->kind = FRAME;
     if (e->kind == START_FILTER && chance(is_iso(channel) ? 90 : 20)) e->kind = START_FLOW;
     if (e->kind == LINK_END && chance(80)) e->kind = TAKE;
-    if (is_link(e->kind) && is_iso(channel) && chance(80)) channel -= 4;
+    if (raw_only(e->kind) && is_iso(channel) && chance(80)) channel -= 4;
     e->a = channel;
     switch (e->kind) {
     case CONNECT:
@@ -265,6 +266,10 @@ void random_event(event *e, int damage) {
             put_pair(&e->first, i, parameter, off(parameter == 1 ? ONE_OF(125000, 250000, 250000, 500000, 500000) : below(2), damage / 3));
         }
         break;
+    case DECIDE:
+        flags = some_flags();
+        e->b = off((flags & 0x100) != 0, damage / 2), e->c = off(some_id(flags), damage / 2);
+        break;
     case LINK_OPEN:
         some_opening(e, damage);
         break;
@@ -283,7 +288,7 @@ void random_event(event *e, int damage) {
 static uint32_t stale(int kind) {
     switch (kind) {
     case CONNECT: case START_FILTER: case START_FLOW: case START_PERIODIC: case WRITE: case READ: case GET: case LAST_ERROR:
-    case LINK_RECEIVE: return 0xBADC0DEu;
+    case LINK_RECEIVE: case DECIDE: return 0xBADC0DEu;
     default: return 0;
     }
 }
@@ -330,6 +335,7 @@ static uint32_t stale(int kind) {
         case LINK_SEND: r.code = CALL(link_send)(m, length, e->a, p, pn); break;                                                          \
         case LINK_RECEIVE: r.code = CALL(link_receive)(m, length, e->a, p, pn, &r.value); break;                                          \
         case LINK_END: r.code = CALL(link_end)(m, length, e->a); break;                                                                   \
+        case DECIDE: r.code = CALL(decide)(m, length, e->a, e->b, e->c, &r.value); break;                                                 \
         default: break;                                                                                                                   \
         }                                                                                                                                 \
         return r;                                                                                                                         \

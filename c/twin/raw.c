@@ -4,6 +4,7 @@
 #include <string.h>
 
 #include "common.h"
+#include "early.h"
 #include "link.h"
 
 enum { FILTERS = 10, PERIODICS = 10, WRITTEN = 16, QUEUE = 32, PAIRS = 16, RECORD = 36, ROW = 12 };
@@ -243,6 +244,19 @@ uint32_t raw_frame(uint8_t *m, uint32_t line, uint32_t wide, uint32_t id, const 
     if (n) memcpy(frame + 4, data, n);
     if (!wide) link_frame(&c->link, id, data, n); /* and the filters, whatever it was to the connection */
     if (let_in(c, (int)wide, frame, 4 + n)) arrive(c, wide ? 256 : 0, get32(d->clock), frame, 4 + (uint32_t)n);
+    return 0;
+}
+
+/* the same for every data at once */
+static uint32_t decide(const channel_t *c, uint32_t wide, uint32_t id, uint32_t *answer) {
+    early_filter of_width[FILTERS];
+    uint8_t bytes[4];
+    unsigned n = 0;
+    if (wide > 1 || !in_range(id, (int)wide)) return 0x0A;
+    for (int i = 0; i < FILTERS; i++)
+        if (c->type[i] && c->wide[i] == wide) of_width[n++] = (early_filter){c->type[i] == 2, c->size[i], c->mask[i], c->pattern[i]};
+    put_identifier(bytes, id);
+    *answer = takes(get32(c->flags), (int)wide) ? early_answer(of_width, n, bytes) : EARLY_DROPPED;
     return 0;
 }
 
@@ -531,6 +545,13 @@ uint32_t raw_get_list(uint8_t *m, uint32_t channel, struct twin_pair *pairs, siz
     channel_t *c;
     uint32_t code = find(m, channel, &c);
     return code ? code : noted(c, get_list(c, pairs, count));
+}
+
+uint32_t raw_decide(uint8_t *m, uint32_t channel, uint32_t wide, uint32_t id, uint32_t *answer) {
+    channel_t *c;
+    uint32_t code = find(m, channel, &c);
+    *answer = 0;
+    return code ? code : noted(c, decide(c, wide, id, answer));
 }
 
 /* ---- TP2.0 connections: the channel must take narrow frames, before anything else of the call ---- */

@@ -147,6 +147,11 @@ uint32_t twin_get_list(uint8_t *m, size_t len, uint32_t channel, struct twin_pai
     return is_iso(channel) ? iso_get_list(of(m, channel), pairs, count) : raw_get_list(m, channel, pairs, count);
 }
 
+uint32_t twin_decide(uint8_t *m, size_t len, uint32_t channel, uint32_t wide, uint32_t id, uint32_t *answer) {
+    *answer = 0;
+    return bad(m, len) ? 0x1A : raw_decide(m, channel, wide, id, answer);
+}
+
 uint32_t twin_link_open(uint8_t *m, size_t len, uint32_t channel, uint32_t own, uint32_t destination, uint32_t rx_id, uint32_t application,
                         uint32_t block_size, uint32_t t1, uint32_t t3) {
     if (bad(m, len)) return 0x1A;

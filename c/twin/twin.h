@@ -1,6 +1,7 @@
 /* The twin: a second implementation of the box in plain C99, written from the scope, its requests and docs/LAYOUT.md and from nothing else, but for
- * TP2.0 connections (link.c says how). It works on the same device memory: the raw channels 1 to 4 with the clock (raw.h), each with its connection
- * (link.h), and behind them the ISO 15765 channels 5 to 8 (iso.h), each seen as a struct of bytes. The tests hold the proved core against it. */
+ * TP2.0 connections and the decision on the identifier alone (link.c and early.c say how). It works on the same device memory: the raw channels 1 to
+ * 4 with the clock (raw.h), each with its connection (link.h), and behind them the ISO 15765 channels 5 to 8 (iso.h), each seen as a struct of
+ * bytes. The tests hold the proved core against it. */
 #ifndef TWIN_H
 #define TWIN_H
 
@@ -38,6 +39,9 @@ struct twin_pair {
 };
 uint32_t twin_set_list(uint8_t *m, size_t len, uint32_t channel, const struct twin_pair *pairs, size_t count);
 uint32_t twin_get_list(uint8_t *m, size_t len, uint32_t channel, struct twin_pair *pairs, size_t count);
+
+/* Of channels 1 to 4, on the identifier alone: 0 dropped, 1 passes, 2 must see the data (early.h). */
+uint32_t twin_decide(uint8_t *m, size_t len, uint32_t channel, uint32_t wide, uint32_t id, uint32_t *answer);
 
 /* TP2.0 connections of channels 1 to 4. */
 uint32_t twin_link_open(uint8_t *m, size_t len, uint32_t channel, uint32_t own, uint32_t destination, uint32_t rx_id, uint32_t application,
