@@ -1,0 +1,3 @@
+pub mod ByMap
+pub mod Pack
+pub mod Examples
