@@ -45,14 +45,14 @@ extern "C" {
 
 /* The version of this header and of the archive built from the same sources. The first number changes when a program or a kept memory that was
  * good may be so no more, the second when something is added, the third with everything else. TRAWL_VERSION is for comparing. */
-#define TRAWL_VERSION_MAJOR 6
-#define TRAWL_VERSION_MINOR 1
+#define TRAWL_VERSION_MAJOR 7
+#define TRAWL_VERSION_MINOR 0
 #define TRAWL_VERSION_PATCH 0
 #define TRAWL_VERSION (TRAWL_VERSION_MAJOR * 10000 + TRAWL_VERSION_MINOR * 100 + TRAWL_VERSION_PATCH)
 
 /* The size of the device memory; of a message record of channels 1 to 4 and of one of channels 5 to 8, and the most payload bytes of the latter; of
  * a telegram record, and the room for the bytes of a telegram; the longest message of a TP2.0 connection; the most pairs of a list. */
-#define TRAWL_MEMORY 46620u
+#define TRAWL_MEMORY 48668u
 #define TRAWL_RECORD 36u
 #define TRAWL_ISO_RECORD 536u
 #define TRAWL_ISO_PAYLOAD 508u

@@ -46,16 +46,25 @@ static void record(uint8_t *p, uint32_t size, uint32_t identifier) {
     for (int i = 0; i < 4; i++) p[24 + i] = (uint8_t)(identifier >> (24 - 8 * i));
 }
 
-/* a channel's filters: the last one lets 0x7E8 in, the others are for other identifiers */
+/* What filters are made with. Of size 4 they are in the maps; of size 5 the same filters are in the list: they ask for a data byte, though for no
+ * bit of it. With a mask of zeros each is for every identifier. */
+static uint32_t filter_size = 4, filter_mask = 0xFFFFFFFF;
+
+/* mask and pattern of filter i of n: the last one is for 0x7E8, the others are for other identifiers */
+static void one_filter(uint8_t *mask, uint8_t *pattern, uint32_t i, uint32_t n) {
+    record(mask, filter_size, filter_mask);
+    record(pattern, filter_size, (i + 1 == n ? 0x7E8 : 0x700 + i) & filter_mask);
+}
+
+/* a channel's filters let 0x7E8 in by the last one */
 static void device(uint8_t *m, uint32_t filters, uint32_t records, uint32_t periodics, uint32_t written) {
     uint8_t mask[36], pattern[36];
     uint32_t v;
-    record(mask, 4, 0xFFFFFFFF);
     twin_power_on(m, MEMORY);
     for (uint32_t line = 0; line < 4; line++) {
         twin_connect(m, MEMORY, line, 5, 0, 500000, &v);
         for (uint32_t i = 0; i < filters; i++) {
-            record(pattern, 4, i + 1 == filters ? 0x7E8 : 0x700 + i);
+            one_filter(mask, pattern, i, filters);
             twin_start_filter(m, MEMORY, line + 1, 1, mask, 36, pattern, 36, &v);
         }
         for (uint32_t i = 0; i < records; i++) twin_frame(m, MEMORY, line, 0, 0x7E8, data8, 8);
@@ -251,6 +260,25 @@ static void deciding(const uint8_t *idle, const uint8_t *typical) {
     printf("  %-28s %8.1f %8.1f %8.2f   worst less valid\n", "decide, worst, by itself", a - look_a, b - look_b, (a - look_a) / (b - look_b));
 }
 
+/* ten filters on each channel: what the look at their maps costs, and a start or stop, which makes them anew */
+static void ten_filters(const char *name, const char *frame, const char *start) {
+    static uint8_t base[MEMORY];
+    device(base, 10, 0, 0, 0);
+    row(name, core_valid, (loop)twin_run_valid, base, 0);
+    row(frame, core_frame_out, twin_run_frame_out, base, 0);
+    row(start, core_filters, twin_run_filters, base, 0);
+}
+
+static void mapped(void) {
+    printf("\nmaps, ten filters: ns a call   core     twin    ratio   (validating)\n");
+    ten_filters("valid, an identifier each", "frame, kept out", "start and stop a filter");
+    filter_mask = 0;
+    ten_filters("valid, every identifier each", "frame, let in", "start and stop a filter");
+    filter_mask = 0xFFFFFFFF, filter_size = 5;
+    ten_filters("valid, none in the maps", "frame, kept out", "start and stop a filter");
+    filter_size = 4;
+}
+
 static void growth(void) {
     static uint8_t base[MEMORY];
     double a, b;
@@ -302,11 +330,10 @@ static uint8_t *one_event(uint8_t *p, int kind, uint32_t i) {
 
 static size_t make(const int *kinds, unsigned n, uint32_t filters, unsigned *events) {
     uint8_t *p = recording, mask[36], pattern[36];
-    record(mask, 4, 0xFFFFFFFF);
     for (uint32_t line = 0; line < 4; line++) {
         p = put(put(put(put(put(p, 1), line), 5), 0), 500000);
         for (uint32_t i = 0; i < filters; i++) {
-            record(pattern, 4, i + 1 == filters ? 0x7E8 : 0x700 + i);
+            one_filter(mask, pattern, i, filters);
             p = some(some(put(put(put(p, 6), line + 1), i + blocks < filters ? 1 : 2), mask, 36), pattern, 36);
         }
     }
@@ -402,6 +429,7 @@ int main(int argc, char **argv) {
     eight(idle);
     tp20(idle);
     deciding(idle, typical);
+    mapped();
     growth();
     printf("\nreplayed, inner calls: ns an event  core   twin    ratio\n");
     inner("frames and reads, 3 filters", frames, 6, 3);
@@ -410,7 +438,13 @@ int main(int argc, char **argv) {
     inner("frames blocked, 10 filters", only_frames, 1, 10);
     offered = 0x123;
     inner("frames unmatched, 10 filters", only_frames, 1, 10);
-    offered = 0x7E8, blocks = 0;
+    filter_size = 5;
+    inner("  unmatched, by the list", only_frames, 1, 10);
+    offered = 0x7E8;
+    inner("  blocked, by the list", only_frames, 1, 10);
+    blocks = 0;
+    inner("  and reads, by the list", frames, 6, 10);
+    filter_size = 4;
     inner("advance", advances, 1, 0);
     inner("write, take, sent", sends, 3, 0);
     inner("get and set", gets, 2, 0);

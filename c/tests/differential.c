@@ -8,7 +8,7 @@
 #include "../twin/twin.h"
 #include "support.h"
 
-enum { RATE = 5, EVENTS = 400 }; /* where a channel's rate lies in its region */
+enum { RATE = 5, PHASES = RAW_PERIODICS + 40, PENDING = PHASES + 40, EVENTS = 400 }; /* where things lie in a channel's region */
 
 static unsigned long counted[KINDS + 1][0x20], olds;
 
@@ -292,20 +292,30 @@ static void each_byte(void) {
     }
 }
 
-/* numbers of four bytes at and beside their limits: a periodic's interval and time, a rate, a record's size */
+/* a filter that was changed, with the maps that would fit it: it is not the maps that are refused */
+static void with_its_maps(uint32_t channel, size_t at) {
+    uint8_t *maps = core + region_of(channel) + RAW_MAPS, was[2 * RAW_MAP];
+    memcpy(was, maps, sizeof was);
+    twin_remake_maps(core, channel);
+    same_verdict(TRAWL_MEMORY, "verdict on a filter at its limit", at);
+    memcpy(maps, was, sizeof was);
+}
+
+/* numbers of four bytes at and beside their limits: a periodic's interval and time, a rate, a record's size; of the maps some */
 static void each_limit(void) {
     static const uint32_t limits[] = {0,     1,     3,     4,      5,      12,     13,   0x100, 0x101,    0x7FF,   0x800,
                                       0x900, 65535, 65536, 125000, 250000, 500000, 5000, 5001,  65535000, 65535001};
     size_t end = region_size(1) - 4;
     for (uint32_t channel = 1; channel <= 4; channel++)
-        for (size_t at = 1; at <= end && at < LINK_AT; at += at < 320 || at >= 360 ? 1 : 4) {
+        for (size_t at = 1; at <= end && at < LINK_AT; at += at >= PHASES && at < PENDING ? 4 : at >= RAW_MAPS && at + 16 < RAW_PERIODICS ? 16 : 1) {
             uint8_t *p = core + region_of(channel) + at, was[4];
             memcpy(was, p, 4);
             for (size_t k = 0; k < sizeof limits / sizeof *limits; k++) {
                 uint32_t v = limits[k];
-                if (at >= 320 && at < 360) v = 1000 * ((uint32_t)p[-40] | (uint32_t)p[-39] << 8) + (uint32_t)k - 2; /* about its interval */
+                if (at >= PHASES && at < PENDING) v = 1000 * ((uint32_t)p[-40] | (uint32_t)p[-39] << 8) + (uint32_t)k - 2; /* about its interval */
                 p[0] = (uint8_t)v, p[1] = (uint8_t)(v >> 8), p[2] = (uint8_t)(v >> 16), p[3] = (uint8_t)(v >> 24);
                 same_verdict(TRAWL_MEMORY, "verdict on a number at its limit", at);
+                if (at < RAW_MAPS && core[region_of(channel)]) with_its_maps(channel, at);
             }
             memcpy(p, was, 4);
         }

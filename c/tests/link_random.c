@@ -13,7 +13,7 @@ static unsigned long reached[5]; /* how often an event met each state there */
 
 /* ---- where things lie in a raw region, and in its connection ---- */
 
-enum { FLAGS = 1, FLYING = 1307, FLIGHT = 1308 };
+enum { FLAGS = 1, FLYING = RAW_PERIODICS + 1027, FLIGHT = FLYING + 1 };
 enum { STATE, OWN, RX = 5, DESTINATION = 9, APPLICATION, SIZE, T1, T3, TX = 14, TRIES = 18, TRIAL, TRIAL_LEFT, LEAVING = 24, LEAVING_LEFT, BLOCK = 29,
        PACE, WIRE, WIRE_LEFT, ANSWERS = 36, TESTS, UNANSWERED, TEST_LEFT, HOLD = 43, SN = 47, OUT, OUT_LEFT, TAKEN = 53, REPEATS, AGAIN, REST_N,
        REST = 60, EXPECTED = 572, ACKNOWLEDGES, COMPLETE, IN_N, IN = 579, PART = 1091 };

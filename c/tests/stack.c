@@ -162,6 +162,7 @@ static void hardest_filters(uint8_t *m) {
 
 static void boxes(void) {
     static const uint8_t data[8] = {1, 2, 3, 4, 5, 6, 7, 8};
+    uint8_t narrow[TRAWL_RECORD];
     uint32_t v, i;
     trawl_record_make(message, 0, 0x7E8, data, 8);
     for (i = 0; i < 40; i++) memcpy(many + 36 * i, message, 36);
@@ -172,6 +173,8 @@ static void boxes(void) {
     for (i = 0; i < 3; i++) trawl_connect(idle, sizeof idle, i, 5, 0, 500000, &v), trawl_connect(idle, sizeof idle, i, 6, 0, 500000, &v);
     memcpy(linked, idle, sizeof linked);
     links(linked);
+    trawl_record_make(narrow, 0, 0x123, NULL, 0);
+    for (i = 0; i < 3; i++) trawl_start_filter(linked, sizeof linked, i + 1, 1, narrow, 36, narrow, 36, &v); /* of the maps; all others are longer */
     memcpy(hard, idle, sizeof hard);
     hardest_filters(hard);
     memcpy(full, linked, sizeof full);

@@ -8,6 +8,7 @@
 #include "link.h"
 
 enum { FILTERS = 10, PERIODICS = 10, WRITTEN = 16, QUEUE = 32, PAIRS = 16, RECORD = 36, ROW = 12 };
+enum { PASS = 1, BLOCK = 2, MAPPED = 4, HIGHS = 8, BAND = RAW_MAP / HIGHS }; /* types of filters; the longest filter of a map; a map's bands */
 
 /* ---- the part of the memory as a struct of bytes, by docs/LAYOUT.md ---- */
 
@@ -18,6 +19,7 @@ typedef struct {
 typedef struct {
     uint8_t open, flags[4], rate[4], loopback;
     uint8_t type[FILTERS], wide[FILTERS], size[FILTERS], mask[FILTERS][ROW], pattern[FILTERS][ROW];
+    uint8_t passed[RAW_MAP], blocked[RAW_MAP]; /* what follows from the filters: see maps */
     uint8_t interval[PERIODICS][4], phase[PERIODICS][4], pending[PERIODICS];
     record periodic[PERIODICS];
     uint8_t written;
@@ -36,9 +38,44 @@ typedef struct {
     channel_t line[4];
 } device_t;
 
-typedef char raw_sizes_are_right[sizeof(device_t) == RAW_PART && offsetof(channel_t, link) == LINK_AT ? 1 : -1];
+typedef char raw_sizes_are_right[sizeof(device_t) == RAW_PART && offsetof(channel_t, link) == LINK_AT && offsetof(channel_t, passed) == RAW_MAPS &&
+                                         offsetof(channel_t, interval) == RAW_PERIODICS && offsetof(channel_t, last) == RAW_LAST
+                                     ? 1
+                                     : -1];
 
 static device_t *device(uint8_t *m) { return (device_t *)m; }
+
+/* ---- the maps: bit i modulo 8 of byte i div 8 stands for the narrow identifier i ---- */
+
+/* Sets the bits of the identifiers that a filter of at most four bytes matches. An identifier's bytes are 0, 0, its high three bits and its low
+ * eight; a row is zeros behind its size. A band of the map is the 256 identifiers with the same high bits. */
+static void mark(uint8_t map[RAW_MAP], const uint8_t mask[ROW], const uint8_t pattern[ROW]) {
+    uint8_t band[BAND], eight = 0, tops = mask[3] & 0xF8, top = pattern[3] & 0xF8;
+    if (pattern[0] || pattern[1]) return;
+    for (unsigned low = 0; low < 8; low++) eight = (uint8_t)(eight | ((low & mask[3]) == (pattern[3] & 7u)) << low);
+    for (unsigned k = 0; k < BAND; k++) band[k] = (uint8_t)(8 * k & tops) == top ? eight : 0;
+    for (unsigned high = 0; high < HIGHS; high++) {
+        if ((high & mask[2]) != pattern[2]) continue;
+        for (unsigned k = 0; k < BAND; k++) map[BAND * high + k] |= band[k];
+    }
+}
+
+/* the map of a type: narrow filters of one to four bytes have their bits there */
+static void map_of(const channel_t *c, int type, uint8_t map[RAW_MAP]) {
+    memset(map, 0, RAW_MAP);
+    for (int i = 0; i < FILTERS; i++)
+        if (c->type[i] == type && !c->wide[i] && c->size[i] <= MAPPED) mark(map, c->mask[i], c->pattern[i]);
+}
+
+/* made anew whenever the filters change */
+static void maps(channel_t *c) { map_of(c, PASS, c->passed), map_of(c, BLOCK, c->blocked); }
+
+static int maps_fit(const channel_t *c) {
+    uint8_t passed[RAW_MAP], blocked[RAW_MAP];
+    if (zeros(c->type, FILTERS)) return zeros(c->passed, RAW_MAP) && zeros(c->blocked, RAW_MAP);
+    map_of(c, PASS, passed), map_of(c, BLOCK, blocked);
+    return !memcmp(passed, c->passed, RAW_MAP) && !memcmp(blocked, c->blocked, RAW_MAP);
+}
 
 /* ---- validity: every stored number within its limit ---- */
 
@@ -88,6 +125,7 @@ static int good_channel(const channel_t *c) {
     if (c->open > 1 || !is_flags(flags) || !is_rate(get32(c->rate)) || c->loopback > 1 || c->lost > 1 || !is_last(c->last)) return 0;
     for (int i = 0; i < FILTERS; i++)
         if (!good_filter(c, i, flags)) return 0;
+    if (!maps_fit(c)) return 0;
     for (int i = 0; i < PERIODICS; i++)
         if (!good_periodic(c, i, flags)) return 0;
     if (!link_valid(&c->link) || (link_there(&c->link) && !takes(flags, 0))) return 0; /* its frames are narrow */
@@ -101,6 +139,8 @@ int raw_valid(const uint8_t *m) {
         if (!good_channel(&d->line[i])) return 0;
     return 1;
 }
+
+void raw_remake_maps(uint8_t *m, uint32_t channel) { maps(&device(m)->line[channel - 1]); }
 
 /* ---- finding the channel: 0x02 ---- */
 
@@ -228,8 +268,9 @@ static int hits(const channel_t *c, int type, int wide, const uint8_t frame[ROW]
     return 0;
 }
 
+/* by the filters themselves: the maps play no part here */
 static int let_in(const channel_t *c, int wide, const uint8_t frame[ROW], size_t n) {
-    return !hits(c, 2, wide, frame, n) && hits(c, 1, wide, frame, n);
+    return !hits(c, BLOCK, wide, frame, n) && hits(c, PASS, wide, frame, n);
 }
 
 uint32_t raw_frame(uint8_t *m, uint32_t line, uint32_t wide, uint32_t id, const uint8_t *data, size_t n) {
@@ -254,7 +295,7 @@ static uint32_t decide(const channel_t *c, uint32_t wide, uint32_t id, uint32_t 
     unsigned n = 0;
     if (wide > 1 || !in_range(id, (int)wide)) return 0x0A;
     for (int i = 0; i < FILTERS; i++)
-        if (c->type[i] && c->wide[i] == wide) of_width[n++] = (early_filter){c->type[i] == 2, c->size[i], c->mask[i], c->pattern[i]};
+        if (c->type[i] && c->wide[i] == wide) of_width[n++] = (early_filter){c->type[i] == BLOCK, c->size[i], c->mask[i], c->pattern[i]};
     put_identifier(bytes, id);
     *answer = takes(get32(c->flags), (int)wide) ? early_answer(of_width, n, bytes) : EARLY_DROPPED;
     return 0;
@@ -266,7 +307,7 @@ static uint32_t start_filter(channel_t *c, uint32_t type, const uint8_t *mask, s
     uint32_t size;
     int i;
     if (shorter(mask_len, 1) || shorter(pattern_len, 1)) return 0x04;
-    if (type != 1 && type != 2) return 0x16;
+    if (type != PASS && type != BLOCK) return 0x16;
     if (get32(a->protocol) != 5 || get32(b->protocol) != 5) return 0x15;
     size = get32(a->size);
     if (size != get32(b->size) || size < 1 || size > 12 || get32(a->tx) != get32(b->tx)) return 0x0A;
@@ -279,6 +320,7 @@ static uint32_t start_filter(channel_t *c, uint32_t type, const uint8_t *mask, s
     c->size[i] = (uint8_t)size;
     memcpy(c->mask[i], a->data, size);
     memcpy(c->pattern[i], b->data, size);
+    maps(c);
     *number = (uint32_t)i + 1;
     return 0;
 }
@@ -288,6 +330,7 @@ static uint32_t stop_filter(channel_t *c, uint32_t number) {
     c->type[number - 1] = c->wide[number - 1] = c->size[number - 1] = 0;
     memset(c->mask[number - 1], 0, ROW);
     memset(c->pattern[number - 1], 0, ROW);
+    maps(c);
     return 0;
 }
 
@@ -412,6 +455,7 @@ static uint32_t clear(channel_t *c, uint32_t kind) {
         memset(c->size, 0, sizeof c->size);
         memset(c->mask, 0, sizeof c->mask);
         memset(c->pattern, 0, sizeof c->pattern);
+        maps(c);
         return 0;
     default:
         return 0x0F;
@@ -599,4 +643,22 @@ uint32_t raw_last_error(const uint8_t *m, uint32_t channel, uint32_t *code) {
     if (!is_open(d, channel)) return 0x02;
     *code = d->line[channel - 1].last;
     return 0;
+}
+
+/* ---- what the shift report looks at ---- */
+
+static const channel_t *on_line(const uint8_t *m, uint32_t line) { return &((const device_t *)m)->line[line]; }
+
+raw_look_t raw_look(const uint8_t *m, uint32_t line) {
+    const channel_t *c = on_line(m, line);
+    return (raw_look_t){c->open, c->loopback, c->held};
+}
+
+int raw_takes(const uint8_t *m, uint32_t line, uint32_t wide) { return takes(get32(on_line(m, line)->flags), (int)wide); }
+
+int raw_matched(const uint8_t *m, uint32_t line, int type, uint32_t wide, uint32_t id, const uint8_t *data, size_t n) {
+    uint8_t frame[ROW] = {0};
+    put_identifier(frame, id);
+    if (n) memcpy(frame + 4, data, n);
+    return hits(on_line(m, line), type, (int)wide, frame, 4 + n);
 }

@@ -9,6 +9,7 @@
 #include "twin.h"
 
 int raw_valid(const uint8_t *m);
+void raw_remake_maps(uint8_t *m, uint32_t channel);
 uint32_t raw_connect(uint8_t *m, uint32_t line, uint32_t protocol, uint32_t flags, uint32_t rate, uint32_t *channel);
 uint32_t raw_disconnect(uint8_t *m, uint32_t channel);
 uint32_t raw_close(uint8_t *m);
@@ -35,5 +36,15 @@ uint32_t raw_link_send(uint8_t *m, uint32_t channel, const uint8_t *message, siz
 uint32_t raw_link_receive(uint8_t *m, uint32_t channel, uint8_t *b, size_t b_len, uint32_t *length);
 uint32_t raw_link_end(uint8_t *m, uint32_t channel);
 uint32_t raw_last_error(const uint8_t *m, uint32_t channel, uint32_t *code);
+
+/* What the shift report looks at, of the channel of a line: whether it is open, how many records it holds for reading, loopback; whether its connection
+ * takes a width; whether a filter of a type matches a frame. */
+typedef struct {
+    int open, loopback;
+    uint32_t held;
+} raw_look_t;
+raw_look_t raw_look(const uint8_t *m, uint32_t line);
+int raw_takes(const uint8_t *m, uint32_t line, uint32_t wide);
+int raw_matched(const uint8_t *m, uint32_t line, int type, uint32_t wide, uint32_t id, const uint8_t *data, size_t n);
 
 #endif

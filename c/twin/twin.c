@@ -9,7 +9,7 @@
 
 enum { LINES = TWIN_LINES, ISO = 6 };
 
-typedef char twin_size_is_right[TWIN_MEMORY == 46620 ? 1 : -1];
+typedef char twin_size_is_right[TWIN_MEMORY == 48668 ? 1 : -1];
 
 int twin_trusts = 0, twin_old_rates = 0;
 
@@ -21,6 +21,8 @@ int twin_valid(const uint8_t *m, size_t len) {
         if (!iso_valid(m + RAW_PART + line * ISO_REGION)) return 0;
     return 1;
 }
+
+void twin_remake_maps(uint8_t *m, uint32_t channel) { raw_remake_maps(m, channel); }
 
 static int bad(const uint8_t *m, size_t len) { return !twin_trusts && !twin_valid(m, len); }
 

@@ -11,6 +11,7 @@
 #include "sizes.h"
 
 int twin_valid(const uint8_t *m, size_t len);
+void twin_remake_maps(uint8_t *m, uint32_t channel); /* of channel 1 to 4, for tests that write filters themselves */
 uint32_t twin_power_on(uint8_t *m, size_t len);
 uint32_t twin_connect(uint8_t *m, size_t len, uint32_t line, uint32_t protocol, uint32_t flags, uint32_t rate, uint32_t *channel);
 uint32_t twin_disconnect(uint8_t *m, size_t len, uint32_t channel);

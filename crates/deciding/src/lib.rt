@@ -9,7 +9,7 @@ use decision::Decided;
 use decision::Decision;
 use places::FILTERS;
 use places::FLAGS;
-use places::PERIODICS;
+use places::MAPS;
 
 // Decides: a bus frame's tests of its width mark and identifier; a width that the connection doesn't take is dropped; else the filters' answer.
 pub fn decide(r: &[u8], wide: u32, id: u32) -> Decided
@@ -29,7 +29,7 @@ pub fn decide(r: &[u8], wide: u32, id: u32) -> Decided
             decision: Decision::Dropped,
         };
     }
-    let number = early::answer(&r[FILTERS..PERIODICS], wide == 1, id);
+    let number = early::answer(&r[FILTERS..MAPS], wide == 1, id);
     Decided {
         code: codes::STATUS_NOERROR,
         decision: decision::of_number(number),

@@ -1,3 +1,5 @@
 pub mod Rows
 pub mod Held
 pub mod Lent
+pub mod Mapped
+pub mod Remade

@@ -1,5 +1,5 @@
 -- The filters in the region of an open channel: what each call promises. Assumes nothing.
-use mathlib.Core.Path.{_≡_, sym, ap, _∙_}
+use mathlib.Core.Path.{_≡_, sym, ap, subst, _∙_}
 use Prim.Native.Nat.{ℕ, _+_, _-_, _≤_, _<_}
 use native.Mathlib.Omega.{arith}
 use mathlib.Core.Bool.{Bool, true, false}
@@ -8,20 +8,26 @@ use mathlib.Core.List.{List, []}
 use lib.ListN.{length, getD, set, take, drop}
 use lib.Seq.{getD-take, getD-drop}
 use borrow.Rule.Slice.PartMut.{putMid}
-use Rattle.codec.specs.Plain.{within}
+use lib.Dec.{T}
+use Rattle.codec.specs.Plain.{within, all, isByte}
 use Rattle.codec.specs.Word.{wordAt}
 use Rattle.codec.proofs.Tests.{true-T, within-low, within-high}
+use Rattle.machine.specs.Codes.{threeRates}
 use Rattle.machine.specs.Limits.{mostPlaces}
 use Rattle.machine.specs.Filter.{Slots, Filter, free, taken, has}
 use Rattle.machine.proofs.Slots.{has-place, has-none}
-use Rattle.machine.specs.Channel.{filterCode, filterOf, startFilter, stopFilter, says, Outcome, withFilters}
-use Rattle.layout.specs.Sizes.{filtersAt, filtersSize}
-use Rattle.layout.specs.Memory.{filters}
+use Rattle.machine.specs.Channel.{Open, filterCode, filterOf, startFilter, stopFilter, says, Outcome, withFilters, onOpen}
+use Rattle.layout.specs.Sizes.{filtersAt, filtersSize, mappedSize}
+use Rattle.layout.specs.Memory.{filters, mapped}
 use Rattle.layout.specs.Promise.{gives, Opened, callOutcome}
-use Rattle.layout.proofs.Places.{fl}
-use Rattle.layout.proofs.Region.{openOf, word-of, stays, moves, flags-part, filters-part}
+use Rattle.layout.proofs.Good.{Fine, ok-good}
+use Rattle.layout.proofs.Places.{fl, good}
+use Rattle.layout.proofs.Calls.{three-known, fine-open}
+use Rattle.layout.proofs.Region.{openOf, fine, word-of, stays, moves, flags-part}
 use Rattle.filterbank.proofs.Held.{ten-held, is-empty, is-taken}
+use Rattle.filterbank.specs.Part.{Unmapped}
 use Rattle.filterbank.proofs.Lent.{part-lent, held-is}
+use Rattle.filterbank.proofs.Remade.{unmapped, remapped}
 use Rattle.filters.proofs.Steps.{start-refused, start-done, stop-refused, stop-done}
 
 -- the place of one of those numbers, counted from 0
@@ -30,6 +36,11 @@ place-of n w =
     let t = true-T (within 1 mostPlaces n) w in
     let l = within-low 1 mostPlaces n t in
     let h = within-high 1 mostPlaces n t in (l, omega arith)
+
+-- what a region can hold, its filters can be
+filters-fine : (o : Open) (fs : Slots Filter) → Fine (withFilters o fs) → T (filters (fl o) .ok fs)
+unfolding withFilters
+filters-fine o fs t = ok-good _ t .filters-ok
 
 module _ (r : List ℕ) (f : Opened r) where
   pub flags-are : wordAt 1 r ≡ openOf r .config .flags
@@ -46,15 +57,30 @@ module _ (r : List ℕ) (f : Opened r) where
       pub not-started : (code : ℕ) → code ≡ filterCode (openOf r) kind mask pattern → (code ≡ 0 → ⊥) → gives code 0 [] r ≡ callOutcome rates t r (startFilter kind mask pattern)
       not-started code e n = stays r f rates t (startFilter kind mask pattern) code 0 [] (start-refused rates t (openOf r) kind mask pattern code e n)
 
-      pub started : (place : ℕ) (ys : List ℕ) → 0 ≡ filterCode (openOf r) kind mask pattern → place ≡ free (openOf r .filters)
-          → ((flags : ℕ) → ys ≡ filters flags .put (set (filters flags .get (take filtersSize (drop filtersAt r))) place (some (filterOf kind mask pattern))))
-          → gives 0 (place + 1) [] (putMid filtersAt filtersSize r ys) ≡ callOutcome rates t r (startFilter kind mask pattern)
-      started place ys e p y =
-          let x = some (filterOf kind mask pattern) in
-          moves r f rates t (startFilter kind mask pattern) _ 0 (place + 1) [] _
-          (start-done rates t (openOf r) kind mask pattern e
-          ∙ ap {B = Outcome} (λ (k : ℕ). (withFilters (openOf r) (set (openOf r .filters) k x), says 0 (k + 1) [])) (sym p))
-          (filters-part r f .becomes ys (set (openOf r .filters) place x) (moved ys place x y))
+      -- the filter at a place, which the region can hold there
+      module _ (place : ℕ) (e : 0 ≡ filterCode (openOf r) kind mask pattern) (p : place ≡ free (openOf r .filters)) (bm : T (all isByte mask)) (bp : T (all isByte pattern)) where
+        abbrev with : Slots Filter
+        with = set (openOf r .filters) place (some (filterOf kind mask pattern))
+
+        done : onOpen threeRates 0 (openOf r) (startFilter kind mask pattern) .0 ≡ withFilters (openOf r) with
+        done =
+            ap (λ (x : Outcome). x .0) (start-done threeRates 0 (openOf r) kind mask pattern e)
+            ∙ ap (λ (k : ℕ). withFilters (openOf r) (set (openOf r .filters) k (some (filterOf kind mask pattern)))) (sym p)
+
+        with-ok : T (filters (fl (openOf r)) .ok with)
+        with-ok = filters-fine (openOf r) with (subst Fine done (fine-open threeRates three-known 0 (omega arith) (openOf r) (good (openOf r) (fine r f)) (startFilter kind mask pattern) (bm, bp)))
+
+        module _ (ys : List ℕ) (y : (flags : ℕ) → ys ≡ filters flags .put (set (filters flags .get (take filtersSize (drop filtersAt r))) place (some (filterOf kind mask pattern)))) where
+          pub start-unmapped : Unmapped (take mappedSize (drop filtersAt (putMid filtersAt filtersSize r ys)))
+          start-unmapped = unmapped r f with with-ok ys (moved ys place _ y)
+
+          pub started : (zs : List ℕ) → ((flags : ℕ) → zs ≡ mapped flags .put (filters flags .get (take filtersSize (take mappedSize (drop filtersAt (putMid filtersAt filtersSize r ys))))))
+              → gives 0 (place + 1) [] (putMid filtersAt mappedSize (putMid filtersAt filtersSize r ys) zs) ≡ callOutcome rates t r (startFilter kind mask pattern)
+          started zs z =
+              moves r f rates t (startFilter kind mask pattern) _ 0 (place + 1) [] _
+              (start-done rates t (openOf r) kind mask pattern e
+              ∙ ap {B = Outcome} (λ (k : ℕ). (withFilters (openOf r) (set (openOf r .filters) k (some (filterOf kind mask pattern))), says 0 (k + 1) [])) (sym p))
+              (remapped r f with with-ok ys (moved ys place _ y) zs z)
 
     module _ (number : ℕ) where
       refused : has (openOf r .filters) number ≡ false → gives 0x16 0 [] r ≡ callOutcome rates t r (stopFilter number)
@@ -76,9 +102,23 @@ module _ (r : List ℕ) (f : Opened r) where
         pub not-held : getD r (filtersAt + i) 0 ≡ 0 → gives 0x16 0 [] r ≡ callOutcome rates t r (stopFilter number)
         not-held e = refused (held-here false (is-empty (take filtersSize (drop filtersAt r)) (part-lent r f) i (place-of number w .1) (sym here ∙ e)))
 
-        pub stopped : (getD r (filtersAt + i) 0 ≡ 0 → ⊥) → (ys : List ℕ) → ((flags : ℕ) → ys ≡ filters flags .put (set (filters flags .get (take filtersSize (drop filtersAt r))) i none))
-            → gives 0 0 [] (putMid filtersAt filtersSize r ys) ≡ callOutcome rates t r (stopFilter number)
-        stopped n ys y =
-            moves r f rates t (stopFilter number) _ 0 0 [] _
-            (stop-done rates t (openOf r) number (held-here true (is-taken (take filtersSize (drop filtersAt r)) (part-lent r f) i (place-of number w .1) (λ e. n (here ∙ e)))))
-            (filters-part r f .becomes ys (set (openOf r .filters) i none) (moved ys i none y))
+        module _ (n : getD r (filtersAt + i) 0 ≡ 0 → ⊥) where
+          abbrev without : Slots Filter
+          without = set (openOf r .filters) i none
+
+          is-held : has (openOf r .filters) number ≡ true
+          is-held = held-here true (is-taken (take filtersSize (drop filtersAt r)) (part-lent r f) i (place-of number w .1) (λ e. n (here ∙ e)))
+
+          without-ok : T (filters (fl (openOf r)) .ok without)
+          without-ok =
+              filters-fine (openOf r) without
+              (subst Fine (ap (λ (x : Outcome). x .0) (stop-done threeRates 0 (openOf r) number is-held)) (fine-open threeRates three-known 0 (omega arith) (openOf r) (good (openOf r) (fine r f)) (stopFilter number) tt))
+
+          module _ (ys : List ℕ) (y : (flags : ℕ) → ys ≡ filters flags .put (set (filters flags .get (take filtersSize (drop filtersAt r))) i none)) where
+            pub stop-unmapped : Unmapped (take mappedSize (drop filtersAt (putMid filtersAt filtersSize r ys)))
+            stop-unmapped = unmapped r f without without-ok ys (moved ys i none y)
+
+            pub stopped : (zs : List ℕ) → ((flags : ℕ) → zs ≡ mapped flags .put (filters flags .get (take filtersSize (take mappedSize (drop filtersAt (putMid filtersAt filtersSize r ys))))))
+                → gives 0 0 [] (putMid filtersAt mappedSize (putMid filtersAt filtersSize r ys) zs) ≡ callOutcome rates t r (stopFilter number)
+            stopped zs z =
+                moves r f rates t (stopFilter number) _ 0 0 [] _ (stop-done rates t (openOf r) number is-held) (remapped r f without without-ok ys (moved ys i none y) zs z)

@@ -14,6 +14,7 @@ use codes::Answer;
 use places::DATA_IN;
 use places::FILTERS;
 use places::FLAGS;
+use places::MAPS;
 use places::PERIODICS;
 use places::PLACES;
 use places::ROW;
@@ -43,12 +44,12 @@ fn put_filter(part: &mut [u8], i: usize, kind: u32, mask: &[u8], pattern: &[u8])
     );
 }
 
-// Start a filter on an open channel's region: its number is the smallest free one.
+// Start a filter on an open channel's region: its number is the smallest free one, and the maps follow.
 pub fn start_filter(r: &mut [u8], kind: u32, mask: &[u8], pattern: &[u8]) -> Answer
     requires { ⌜ Opened (now r) ⌝ }
     ensures { λ a. ⌜ ((rates : List ℕ) (t : ℕ) → gives (a .code) (a .value) [] (now (r .exit)) ≡ callOutcome rates t (now (r .entry)) (startFilter kind (now (mask .entry)) (now (pattern .entry)))) ⌝ }
 {
-    let place = filterbank::first_free(&r[FILTERS..PERIODICS]);
+    let place = filterbank::first_free(&r[FILTERS..MAPS]);
     let code = filtercheck::start_code(integers::word_at(r, FLAGS), kind, mask, pattern, place);
     if code != codes::STATUS_NOERROR {
         return Answer {
@@ -56,14 +57,15 @@ pub fn start_filter(r: &mut [u8], kind: u32, mask: &[u8], pattern: &[u8]) -> Ans
             value: 0,
         };
     }
-    put_filter(&mut r[FILTERS..PERIODICS], place, kind, mask, pattern);
+    put_filter(&mut r[FILTERS..MAPS], place, kind, mask, pattern);
+    maps::remake(&mut r[FILTERS..PERIODICS]);
     Answer {
         code: codes::STATUS_NOERROR,
         value: place as u32 + 1,
     }
 }
 
-// Stop the filter of a number: its place is empty again.
+// Stop the filter of a number: its place is empty again, and the maps follow.
 pub fn stop_filter(r: &mut [u8], number: u32) -> u32
     requires { ⌜ Opened (now r) ⌝ }
     ensures { λ code. ⌜ ((rates : List ℕ) (t : ℕ) → gives code 0 [] (now (r .exit)) ≡ callOutcome rates t (now (r .entry)) (stopFilter number)) ⌝ }
@@ -76,6 +78,7 @@ pub fn stop_filter(r: &mut [u8], number: u32) -> u32
         return codes::ERR_INVALID_FILTER_ID;
     }
     let none = [0u8; ROW];
-    filterbank::put_place(&mut r[FILTERS..PERIODICS], i, 0, false, 0, &none, &none);
+    filterbank::put_place(&mut r[FILTERS..MAPS], i, 0, false, 0, &none, &none);
+    maps::remake(&mut r[FILTERS..PERIODICS]);
     codes::STATUS_NOERROR
 }

@@ -18,7 +18,7 @@ use Rattle.machine.specs.Limits.{mostPlaces}
 use Rattle.machine.specs.Filter.{Slots, Filter, anySlot, matches, hits, passes}
 use Rattle.machine.proofs.Slots.{any-none, any-some, any-end}
 use Rattle.layout.specs.Sizes.{widthsIn, sizesIn}
-use Rattle.filterwalk.specs.Columns.{Heads, EmptyFrom, noneOf, filterAt, filtersIn}
+use Rattle.filterwalk.specs.Columns.{Heads, EmptyFrom, noneOf, filterAt, filtersIn, passesWith}
 use Rattle.filterwalk.proofs.Listed.{listed-long, listed-at}
 
 -- ---- a test of every number below n
@@ -204,15 +204,25 @@ module _ (heads : List ℕ) (masks patterns : List (List ℕ)) (kind : ℕ) (wid
 
 -- ---- the verdict of the two walks
 
+module _ (passed : Bool) (fs : Slots Filter) (wide : Bool) (bytes : List ℕ) where
+  pub blocked : true ≡ hits true fs wide bytes → false ≡ passesWith passed fs wide bytes
+  unfolding passesWith
+  blocked e = sym (ap (λ (b : Bool). (passed || hits false fs wide bytes) && not b) (sym e) ∙ and-false (passed || hits false fs wide bytes))
+
+  pub not-blocked : (r : Bool) → false ≡ hits true fs wide bytes → r ≡ (passed || hits false fs wide bytes) → r ≡ passesWith passed fs wide bytes
+  unfolding passesWith
+  not-blocked r e h = h ∙ sym (ap (λ (b : Bool). (passed || hits false fs wide bytes) && not b) (sym e) ∙ and-true (passed || hits false fs wide bytes))
+
+-- where nothing besides them has
+pub by-these : (passed h r : Bool) → passed ≡ false → r ≡ h → r ≡ (passed || h)
+by-these passed h r e k = k ∙ ap (λ (b : Bool). b || h) (sym e)
+
+-- no filter of the kind that could turn it
 module _ (fs : Slots Filter) (wide : Bool) (bytes : List ℕ) where
-  pub blocked : true ≡ hits true fs wide bytes → false ≡ passes fs wide bytes
-  unfolding passes
-  blocked e = sym (ap (λ (b : Bool). hits false fs wide bytes && not b) (sym e) ∙ and-false (hits false fs wide bytes))
-
-  pub not-blocked : (r : Bool) → false ≡ hits true fs wide bytes → r ≡ hits false fs wide bytes → r ≡ passes fs wide bytes
-  unfolding passes
-  not-blocked r e h = h ∙ sym (ap (λ (b : Bool). hits false fs wide bytes && not b) (sym e) ∙ and-true (hits false fs wide bytes))
-
-  pub none-passed : false ≡ hits false fs wide bytes → false ≡ passes fs wide bytes
-  unfolding passes
+  pub none-passed : false ≡ hits false fs wide bytes → false ≡ passesWith false fs wide bytes
+  unfolding passesWith
   none-passed e = sym (ap (λ (b : Bool). b && not (hits true fs wide bytes)) (sym e))
+
+  pub none-blocks : false ≡ hits true fs wide bytes → true ≡ passesWith true fs wide bytes
+  unfolding passesWith
+  none-blocks e = ap not e

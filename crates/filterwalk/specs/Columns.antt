@@ -1,14 +1,14 @@
 -- The ten filters of their columns, as the verdict reads them. Assumes nothing.
 use mathlib.Core.Path.{_≡_}
 use Prim.Native.Nat.{ℕ, zero, suc, _+_, _*_, _≤_, _<_}
-use mathlib.Core.Bool.{Bool, not}
+use mathlib.Core.Bool.{Bool, true, false, not, _&&_, _||_}
 use mathlib.Core.Option.{Option}
 use mathlib.Core.List.{List, [], _∷_, _++_}
 use lib.Dec.{eqb}
 use lib.ListN.{length, getD, take, drop}
 use Rattle.codec.specs.Plain.{allBelow}
 use Rattle.machine.specs.Limits.{mostPlaces, mostData}
-use Rattle.machine.specs.Filter.{Slots, Filter}
+use Rattle.machine.specs.Filter.{Slots, Filter, hits}
 use Rattle.layout.specs.Sizes.{widthsIn, sizesIn, masksIn}
 use Rattle.layout.specs.Memory.{filterBack}
 
@@ -43,3 +43,7 @@ filterAt heads masks patterns f =
 -- the ten filters of ten types, ten width marks and ten sizes, and of ten mask rows and ten pattern rows
 unfoldable pub filtersIn : List ℕ → List (List ℕ) → List (List ℕ) → Slots Filter
 filtersIn heads masks patterns = listed mostPlaces (filterAt heads masks patterns)
+
+-- the verdict of these filters, where `passed` says that a pass filter besides them matches
+unfoldable pub passesWith : Bool → Slots Filter → Bool → List ℕ → Bool
+passesWith passed fs wide bytes = (passed || hits false fs wide bytes) && not (hits true fs wide bytes)

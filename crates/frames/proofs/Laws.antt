@@ -9,8 +9,8 @@ use Rattle.machine.specs.Limits.{mostData}
 use Rattle.machine.specs.Message.{takes, idBytes, twelve, widthFlag, received}
 use Rattle.machine.specs.Filter.{Slots, Filter, passes}
 use Rattle.machine.specs.Channel.{Chan, offered}
-use Rattle.layout.specs.Sizes.{filtersAt, filtersSize}
-use Rattle.layout.specs.Memory.{filters, region}
+use Rattle.layout.specs.Sizes.{filtersAt, mappedSize}
+use Rattle.layout.specs.Memory.{mapped, region}
 use Rattle.layout.specs.Promise.{Opened}
 use Rattle.layout.proofs.Region.{openOf, kept, is-open, word-of, flags-part, filters-part}
 use Rattle.records.specs.Cell.{padded}
@@ -53,8 +53,8 @@ module _ (r : List ℕ) (f : Opened r) (now : ℕ) (w : Bool) (bytes : List ℕ)
   pub width-taken : (n : ℕ) (b : Bool) → n ≡ wordAt 1 r → b ≡ takes n w → b ≡ takes (openOf r .config .flags) w
   width-taken n b e t = t ∙ ap (λ (k : ℕ). takes k w) (e ∙ word-of (flags-part r f))
 
-  pub verdict-is : (b : Bool) (frame : List ℕ) (len : ℕ) → frame ≡ twelve bytes → len ≡ length bytes
-      → ((flags : ℕ) → b ≡ passes (filters flags .get (take filtersSize (drop filtersAt r))) w (take len frame)) → b ≡ passes (openOf r .filters) w bytes
-  verdict-is b frame len e l v =
-      v (openOf r .config .flags)
-      ∙ ap₂ (λ (fs : Slots Filter) (x : List ℕ). passes fs w x) (filters-part r f .got) (ap₂ (λ (n : ℕ) (x : List ℕ). take n x) l e ∙ of-its-row bytes)
+  pub row-is : (frame : List ℕ) (len : ℕ) → frame ≡ twelve bytes → len ≡ length bytes → take len frame ≡ bytes
+  row-is frame len e l = ap₂ (λ (n : ℕ) (x : List ℕ). take n x) l e ∙ of-its-row bytes
+
+  pub verdict-is : (b : Bool) → ((flags : ℕ) → b ≡ passes (mapped flags .get (take mappedSize (drop filtersAt r))) w bytes) → b ≡ passes (openOf r .filters) w bytes
+  verdict-is b v = v (openOf r .config .flags) ∙ ap (λ (fs : Slots Filter). passes fs w bytes) (filters-part r f .got)

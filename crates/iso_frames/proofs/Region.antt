@@ -25,18 +25,22 @@ use Rattle.iso_layout.proofs.Region.{again, is-shut, not-shut, readyOf, is-read
 use Rattle.iso_frames.specs.Frame.{concerned, hearsAt}
 use Rattle.iso_frames.proofs.One.{none-hears, first-hears, second-hears}
 
--- ---- a good frame is no longer than one may be
+-- ---- a good frame is no longer than one may be, and its identifier within its limit
 
-good-three : (x y z : Bool) → codeOf ((x, 0x0A) ∷ (y, 0x0A) ∷ (z, 0x0A) ∷ []) ≡ 0x00 → z ≡ false
+good-three : (x y z : Bool) → codeOf ((x, 0x0A) ∷ (y, 0x0A) ∷ (z, 0x0A) ∷ []) ≡ 0x00 → (y ≡ false) × (z ≡ false)
 unfolding codeOf
 good-three true y z e = absurd (omega arith)
 good-three false true z e = absurd (omega arith)
 good-three false false true e = absurd (omega arith)
-good-three false false false e = refl
+good-three false false false e = (refl, refl)
 
 pub short-frame : (w id : ℕ) (b : List ℕ) → frameCode w id b ≡ 0x00 → length b ≤ mostBytes
 unfolding frameCode
-short-frame w id b e = ltb-false mostBytes (length b) (good-three (ltb 1 w) (ltb (idLimit (eqb w 1)) id) (ltb mostBytes (length b)) e)
+short-frame w id b e = ltb-false mostBytes (length b) (good-three (ltb 1 w) (ltb (idLimit (eqb w 1)) id) (ltb mostBytes (length b)) e .1)
+
+pub small-id : (w id : ℕ) (b : List ℕ) → frameCode w id b ≡ 0x00 → id ≤ idLimit (eqb w 1)
+unfolding frameCode
+small-id w id b e = ltb-false (idLimit (eqb w 1)) id (good-three (ltb 1 w) (ltb (idLimit (eqb w 1)) id) (ltb mostBytes (length b)) e .0)
 
 module _ (r : List ℕ) (long : length r ≡ isoRegionSize) (v : T (isoRegion .valid r)) (clock w id : ℕ) (b : List ℕ) where
   abbrev Leaves : List ℕ → Type 0

@@ -7,7 +7,7 @@ use lib.ListN.{length, set, length-append}
 use lib.Seq.{set-append-left, set-append-seam}
 use Rattle.codec.specs.Code.{byte, via, such, both, bothOn, slot}
 use Rattle.machine.specs.Channel.{opened, Open, withLast}
-use Rattle.layout.specs.Memory.{config, filters, sendingPart, receivingPart, lastPart, linkPart, rest, openPart, region}
+use Rattle.layout.specs.Memory.{config, mapped, sendingPart, receivingPart, lastPart, linkPart, rest, openPart, region}
 use Rattle.layout.specs.Sizes.{regionSize, lastAt}
 use Rattle.link_layout.specs.Connection.{connectionPart}
 use Rattle.link_layout.specs.Sizes.{linkSize}
@@ -18,7 +18,7 @@ use Rattle.layout.proofs.Sizes.{connection-size}
 -- what stands in front of the last code of an open channel
 abbrev front : Open → List ℕ
 front o =
-    1 ∷ (config .put (o .config) ++ (filters (o .config .flags) .put (o .filters) ++ (sendingPart (o .config .flags) .put (o .sending) ++ receivingPart (o .config .flags) .put (o .receiving))))
+    1 ∷ (config .put (o .config) ++ (mapped (o .config .flags) .put (o .filters) ++ (sendingPart (o .config .flags) .put (o .sending) ++ receivingPart (o .config .flags) .put (o .receiving))))
 
 -- then it comes, and behind it the connection
 around-last : (o : Open) (k : ℕ) → region .put (withLast o k) ≡ front o ++ k ∷ connectionPart .put (o .link)
@@ -26,7 +26,7 @@ unfolding region openPart rest lastPart linkPart via such both bothOn slot byte 
 around-last o k =
     let f : ℕ = o .config .flags in
     let c : List ℕ = config .put (o .config) in
-    let fs : List ℕ = filters f .put (o .filters) in
+    let fs : List ℕ = mapped f .put (o .filters) in
     let ss : List ℕ = sendingPart f .put (o .sending) in
     let rs : List ℕ = receivingPart f .put (o .receiving) in
     let ls : List ℕ = k ∷ connectionPart .put (o .link) in

@@ -3,6 +3,7 @@
 use Prim.Native.Nat.{ℕ, _+_, _*_}
 use Rattle.machine.specs.Limits.{lines, mostPlaces, mostWritten, mostToRead, recordSize, mostData}
 use Rattle.link_layout.specs.Sizes.{linkSize}
+use Rattle.map_rule.specs.Map.{mapsSize}
 
 -- a number, and a mark or a count
 abbrev pub numberSize : ℕ
@@ -26,6 +27,10 @@ patternsIn = masksIn + rowsSize
 
 abbrev pub filtersSize : ℕ
 filtersSize = patternsIn + rowsSize
+
+-- with the two maps behind them
+abbrev pub mappedSize : ℕ
+mappedSize = filtersSize + mapsSize
 
 -- ---- the ten periodics: intervals, times since the last due time, pending marks, records
 abbrev pub phasesIn : ℕ
@@ -74,8 +79,12 @@ loopbackAt = rateAt + numberSize
 abbrev pub filtersAt : ℕ
 filtersAt = flagsAt + configSize
 
+-- the maps of pass and of block
+abbrev pub mapsAt : ℕ
+mapsAt = filtersAt + filtersSize
+
 abbrev pub periodicsAt : ℕ
-periodicsAt = filtersAt + filtersSize
+periodicsAt = mapsAt + mapsSize
 
 abbrev pub writtenAt : ℕ
 writtenAt = periodicsAt + periodicsSize

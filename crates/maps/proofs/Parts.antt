@@ -16,6 +16,13 @@ use Rattle.derived.specs.Derived.{sameBytes}
 use Rattle.machine.specs.Filter.{Slots, Filter}
 use Rattle.map_rule.specs.Map.{mapSize, mapsSize, bitAt, bitIn, mapBytes, maps}
 use Rattle.map_rule.proofs.ByMap.{map-long}
+use Rattle.layout.specs.Sizes.{filtersSize}
+use Rattle.layout.specs.Memory.{filters, mapped}
+use Rattle.layout.proofs.Memory.{filters-lawful}
+use Rattle.layout.proofs.Sizes.{filters-size}
+use Rattle.filterbank.specs.Part.{Unmapped}
+use Rattle.filterbank.proofs.Held.{any-flags, any-put}
+use Rattle.filterbank.proofs.Mapped.{mapped-put}
 
 -- ---- both halves written anew
 
@@ -31,6 +38,21 @@ pub remade : (fs : Slots Filter) (map a b : List ℕ) (j k : ℕ) → length map
     → putMid mapSize k (putMid 0 j map a) b ≡ maps fs
 unfolding maps
 remade fs map a b j k l ej ek ea eb = two-halves mapSize map a b l (ap length ea ∙ map-long false fs) j k ej ek ∙ ap₂ (λ (x y : List ℕ). x ++ y) ea eb
+
+-- behind the filters that they follow from
+pub behind : (flags : ℕ) (m part ys : List ℕ) (k : ℕ) → Unmapped m → k ≡ mapsSize → part ≡ take filtersSize m → ys ≡ maps (filters flags .get part)
+    → putMid filtersSize k m ys ≡ mapped flags .put (filters flags .get (take filtersSize m))
+behind flags m part ys k u ek ep ey =
+    let v = u .part in
+    let f : List ℕ = take filtersSize m in
+    let none : drop k (drop filtersSize m) ≡ [] = drop-of-length-le (drop filtersSize m) {i = k} (omega (arith, length-drop filtersSize m, u .long)) in
+    let was : f ≡ filters flags .put (filters flags .get f) =
+    sym (filters-lawful (v .flags) .put-get f (v .long ∙ sym (filters-size (v .flags))) (v .valid)) ∙ any-put (v .flags) flags (filters (v .flags) .get f) ∙ ap (filters flags .put) (any-flags (v .flags) flags f)
+    in
+    ap₂ (λ (x y : List ℕ). f ++ (x ++ y)) (ey ∙ ap (λ (p : List ℕ). maps (filters flags .get p)) ep) none
+    ∙ ap (λ (x : List ℕ). f ++ x) (append-nil (maps (filters flags .get f)))
+    ∙ ap (λ (x : List ℕ). x ++ maps (filters flags .get f)) was
+    ∙ sym (mapped-put flags (filters flags .get f))
 
 -- ---- both halves compared
 

@@ -1,16 +1,21 @@
 // The two maps of a channel's narrow filters, pass first: made from the filters, compared with bytes, and asked.
 ghost use mathlib.Core.Path.{_≡_};
 ghost use Prim.Native.Nat.{ℕ, _<_};
-ghost use lib.ListN.{length};
+ghost use lib.ListN.{length, take};
 ghost use Rattle.derived.specs.Derived.{sameBytes};
 ghost use Rattle.map_rule.specs.Map.{mapSize, mapsSize, narrowIds, mapBytes, bitIn};
 ghost use Rattle.map_rule.specs.Map.{maps as mapsOf};
 ghost use Rattle.machine.specs.Limits.{mostPlaces};
 ghost use Rattle.layout.specs.Sizes.{filtersSize};
 ghost use Rattle.layout.specs.Memory.{filters};
-ghost use Rattle.filterbank.specs.Part.{FilterPart};
+ghost use Rattle.layout.specs.Memory.{mapped as mappedOf};
+ghost use Rattle.filterbank.specs.Part.{FilterPart, Unmapped};
 ghost use Rattle.maps.specs.Chosen.{mappedAt, noneMapped, chosenAt};
 use filterwalk::BLOCK;
+use places::FILTERS_SIZE;
+use places::MAP_SIZE;
+use places::MAPPED_SIZE;
+use places::MAPS_SIZE;
 use places::MASKS_IN;
 use places::NUMBER;
 use places::PATTERNS_IN;
@@ -19,10 +24,6 @@ use places::ROW;
 use places::SIZES_IN;
 use places::WIDTHS_IN;
 
-// The bytes of a map, and of both.
-pub const MAP: usize = 256;
-
-pub const MAPS: usize = MAP + MAP;
 // The bytes of an identifier in a row, and where its two lower ones are.
 const ID_SIZE: u8 = NUMBER as u8;
 
@@ -31,7 +32,7 @@ const HIGH: usize = 2;
 const LOW: usize = 3;
 
 // Is a filter of the map at place f, narrow and no longer than an identifier?
-fn mapped(part: &[u8], f: usize) -> bool
+pub fn mapped(part: &[u8], f: usize) -> bool
     requires { ⌜ (length (now part) ≡ filtersSize) × (f < mostPlaces) ⌝ }
     ensures { λ r. ⌜ r ≡ mappedAt (now (part .entry)) f ⌝ }
 {
@@ -82,13 +83,23 @@ fn make(part: &[u8], block: bool, map: &mut [u8])
     }
 }
 
-// The two maps of a channel's filters, written anew: pass first, then block.
-pub fn remake(part: &[u8], map: &mut [u8])
+// The two maps of a channel's filters: pass first, then block.
+fn write(part: &[u8], map: &mut [u8])
     requires { ⌜ FilterPart (now part) × (length (now map) ≡ mapsSize) ⌝ }
     ensures { λ r. ⌜ ((flags : ℕ) → now (map .exit) ≡ mapsOf (filters flags .get (now (part .entry)))) ⌝ }
 {
-    make(part, false, &mut map[0..MAP]);
-    make(part, true, &mut map[MAP..MAPS]);
+    make(part, false, &mut map[0..MAP_SIZE]);
+    make(part, true, &mut map[MAP_SIZE..MAPS_SIZE]);
+}
+
+// The maps made anew behind a channel's filters.
+pub fn remake(m: &mut [u8])
+    requires { ⌜ Unmapped (now m) ⌝ }
+    ensures { λ r. ⌜ ((flags : ℕ) → now (m .exit) ≡ mappedOf flags .put (filters flags .get (take filtersSize (now (m .entry))))) ⌝ }
+{
+    let mut part = [0u8; FILTERS_SIZE];
+    octets::copy(&mut part, &m[0..FILTERS_SIZE]);
+    write(&part, &mut m[FILTERS_SIZE..MAPPED_SIZE]);
 }
 
 // Are these bytes the map of a kind?
@@ -96,7 +107,7 @@ fn fits(part: &[u8], block: bool, map: &[u8]) -> bool
     requires { ⌜ FilterPart (now part) × (length (now map) ≡ mapSize) ⌝ }
     ensures { λ r. ⌜ ((flags : ℕ) → r ≡ sameBytes (now (map .entry)) (mapBytes block (filters flags .get (now (part .entry))))) ⌝ }
 {
-    let mut own = [0u8; MAP];
+    let mut own = [0u8; MAP_SIZE];
     make(part, block, &mut own);
     map_bands::same(map, &own)
 }
@@ -109,7 +120,7 @@ pub fn fit(part: &[u8], map: &[u8]) -> bool
     if none_mapped(part) {
         return octets::all_zero(map);
     }
-    fits(part, false, &map[0..MAP]) & fits(part, true, &map[MAP..MAPS])
+    fits(part, false, &map[0..MAP_SIZE]) & fits(part, true, &map[MAP_SIZE..MAPS_SIZE])
 }
 
 // The bit of an identifier in a map.

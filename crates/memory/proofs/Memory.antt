@@ -42,7 +42,7 @@ pub box-fields : rows 0 (numberSize ∷ regionSize ∷ regionSize ∷ regionSize
     ≡ 0 ∷ rawAt 0 ∷ rawAt 1 ∷ rawAt 2 ∷ rawAt 3 ∷ isoAtByte 0 ∷ isoAtByte 1 ∷ isoAtByte 2 ∷ isoAtByte 3 ∷ boxSize ∷ []
 box-fields = refl
 
-pub box-numbers : rawAt 0 ∷ rawAt 1 ∷ rawAt 2 ∷ rawAt 3 ∷ isoAtByte 0 ∷ isoAtByte 1 ∷ isoAtByte 2 ∷ isoAtByte 3 ∷ boxSize ∷ [] ≡ 4 ∷ 3594 ∷ 7184 ∷ 10774 ∷ 14364 ∷ 22428 ∷ 30492 ∷ 38556 ∷ 46620 ∷ []
+pub box-numbers : rawAt 0 ∷ rawAt 1 ∷ rawAt 2 ∷ rawAt 3 ∷ isoAtByte 0 ∷ isoAtByte 1 ∷ isoAtByte 2 ∷ isoAtByte 3 ∷ boxSize ∷ [] ≡ 4 ∷ 4106 ∷ 8208 ∷ 12310 ∷ 16412 ∷ 24476 ∷ 32540 ∷ 40604 ∷ 48668 ∷ []
 box-numbers = refl
 
 -- power-on's bytes are zeros

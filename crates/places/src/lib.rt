@@ -41,6 +41,12 @@ pub const ROWS_SIZE: usize = PLACES * ROW;
 pub const PATTERNS_IN: usize = MASKS_IN + ROWS_SIZE;
 
 pub const FILTERS_SIZE: usize = PATTERNS_IN + ROWS_SIZE;
+// The maps of pass and of block that follow from them, and the filters with both.
+pub const MAP_SIZE: usize = 256;
+
+pub const MAPS_SIZE: usize = MAP_SIZE + MAP_SIZE;
+
+pub const MAPPED_SIZE: usize = FILTERS_SIZE + MAPS_SIZE;
 // In the ten periodics, behind their intervals.
 pub const PHASES_IN: usize = PLACES * NUMBER;
 
@@ -72,7 +78,9 @@ pub const LOOPBACK: usize = RATE + NUMBER;
 
 pub const FILTERS: usize = FLAGS + CONFIG_SIZE;
 
-pub const PERIODICS: usize = FILTERS + FILTERS_SIZE;
+pub const MAPS: usize = FILTERS + FILTERS_SIZE;
+
+pub const PERIODICS: usize = MAPS + MAPS_SIZE;
 
 pub const WRITTEN: usize = PERIODICS + PERIODICS_SIZE;
 
@@ -95,7 +103,7 @@ pub const REGIONS: usize = NUMBER;
 pub const REGIONS_SIZE: usize = LINES * REGION;
 
 // Every number above, in order: those of the definitions.
-pub fn numbers() -> [usize; 44]
+pub fn numbers() -> [usize; 48]
     ensures { λ r. ⌜ r ≡ named ⌝ }
 {
     [
@@ -118,6 +126,9 @@ pub fn numbers() -> [usize; 44]
         ROWS_SIZE,
         PATTERNS_IN,
         FILTERS_SIZE,
+        MAP_SIZE,
+        MAPS_SIZE,
+        MAPPED_SIZE,
         PHASES_IN,
         PENDING_IN,
         MESSAGES_IN,
@@ -133,6 +144,7 @@ pub fn numbers() -> [usize; 44]
         RATE,
         LOOPBACK,
         FILTERS,
+        MAPS,
         PERIODICS,
         WRITTEN,
         FLIGHT,

@@ -1,9 +1,9 @@
 -- What configuring and clearing do to the bytes of a region is what the machine does to the channel. Assumes nothing.
-use mathlib.Core.Path.{_≡_, refl, sym, ap, _∙_}
+use mathlib.Core.Path.{_≡_, refl, sym, ap, ap₂, _∙_}
 use Prim.Native.Nat.{ℕ, zero, suc, _≤_, _<_}
 use native.Mathlib.Omega.{arith}
 use mathlib.Core.Bool.{Bool, true, false}
-use mathlib.Core.List.{List, []}
+use mathlib.Core.List.{List, [], _++_}
 use lib.ListN.{length, getD, set, take, drop}
 use lib.Dec.{eqb}
 use borrow.Author.Tests.{eq-eqb, ne-eqb}
@@ -15,9 +15,13 @@ use Rattle.codec.proofs.Tests.{above, between}
 use Rattle.machine.specs.Filter.{noneYet}
 use Rattle.machine.specs.Channel.{Chan, withConfig, doneWith, onOpen, onClear, getIn, setIn, onGet, setTo, onSet, clear, getParameter, setParameter}
 use Rattle.machine.specs.Limits.{mostWritten}
-use Rattle.layout.specs.Sizes.{receivingAt, writtenAt, periodicsAt, filtersSize, periodicsSize, writtenSize, receivingSize, rateAt, loopbackAt, filtersAt, numberSize}
+use Rattle.layout.specs.Sizes.{receivingAt, writtenAt, periodicsAt, filtersSize, mappedSize, periodicsSize, writtenSize, receivingSize, rateAt, loopbackAt, filtersAt, numberSize}
 use Rattle.layout.specs.Record.{row, body, rec36, outCell, inCell}
-use Rattle.layout.specs.Memory.{filterColumns, filters, periodicColumns, periodics, receivingPart}
+use Rattle.map_rule.specs.Map.{mapsSize}
+use Rattle.map_rule.proofs.Pack.{no-filters as no-maps}
+use Rattle.derived.specs.Derived.{derived}
+use Rattle.codec.proofs.Lists.{zeros-join}
+use Rattle.layout.specs.Memory.{filterColumns, filters, mapped, periodicColumns, periodics, receivingPart}
 use Rattle.layout.specs.Promise.{gives, Opened, callOutcome}
 use Rattle.layout.proofs.Region.{openOf, Part, stays, moves, mark-of, mark-stored, rate-part, loopback-part, filters-part, periodics-part, written-part, receiving-part}
 
@@ -99,6 +103,11 @@ module _ (r : List ℕ) (o : Opened r) (rates : List ℕ) (t : ℕ) where
   unfolding noneYet filters filterColumns row mark via such both many beside eachVia byte
   no-filters k = refl
 
+  -- and then the maps are zeros too
+  no-mapped : (k : ℕ) → mapped k .put noneYet ≡ zeros mappedSize
+  unfolding mapped derived
+  no-mapped k = ap₂ (λ (a b : List ℕ). a ++ b) (no-filters k) no-maps ∙ zeros-join filtersSize mapsSize mappedSize refl
+
   module _ (kind : ℕ) where
     pub clear-written : kind ≡ 1 → Cleared kind writtenAt writtenSize
     unfolding onOpen onClear
@@ -112,9 +121,9 @@ module _ (r : List ℕ) (o : Opened r) (rates : List ℕ) (t : ℕ) where
     unfolding onOpen onClear
     clear-periodics e = cleared (periodics-part r o) noneYet (no-periodics _) kind (rw e refl)
 
-    pub clear-filters : kind ≡ 4 → Cleared kind filtersAt filtersSize
+    pub clear-filters : kind ≡ 4 → Cleared kind filtersAt mappedSize
     unfolding onOpen onClear
-    clear-filters e = cleared (filters-part r o) noneYet (no-filters _) kind (rw e refl)
+    clear-filters e = cleared (filters-part r o) noneYet (no-mapped _) kind (rw e refl)
 
     pub clear-unknown : (kind ≡ 1 → ⊥) → (kind ≡ 2 → ⊥) → (kind ≡ 3 → ⊥) → (kind ≡ 4 → ⊥) → gives 0x0F 0 [] r ≡ callOutcome rates t r (clear kind)
     unfolding onOpen onClear

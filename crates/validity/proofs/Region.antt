@@ -1,12 +1,12 @@
 -- What validity is of the parts of a region and of a region, as code finds it out. Assumes nothing.
-use mathlib.Core.Path.{_≡_, refl, sym, ap, ap₂, _∙_}
+use mathlib.Core.Path.{_≡_, refl, sym, ap, ap₂, subst, _∙_}
 use Prim.Native.Nat.{ℕ, zero, suc, _+_, _-_}
 use native.Mathlib.Omega.{arith}
 use mathlib.Core.Bool.{Bool, true, false, _&&_}
 use mathlib.Core.List.{List}
 use lib.ListN.{length, getD, take, drop}
-use lib.Seq.{getD-take, drop-drop}
-use lib.Dec.{leb}
+use lib.Seq.{getD-take, drop-drop, length-take-le}
+use lib.Dec.{leb, T}
 use Rattle.codec.specs.Plain.{member, allZero, isByte}
 use Rattle.codec.specs.Word.{wordAt}
 use Rattle.codec.specs.Code.{Code, byte, word32, both, bothOn, via, such, mark, slot, upTo, upToOne, validSlot}
@@ -14,13 +14,16 @@ use Rattle.codec.proofs.Word.{word-part, word-drop}
 use Rattle.machine.specs.Codes.{threeRates, callCodes}
 use Rattle.machine.specs.Channel.{isFlags}
 use Rattle.machine.specs.Limits.{mostWritten, mostToRead}
-use Rattle.layout.specs.Sizes.{configSize, filtersSize, periodicsSize, writtenSize, flightSize, queueSize, sendingSize, receivingSize, flagsAt, filtersAt, periodicsAt, receivingAt, lastAt, linkAt, regionSize}
+use Rattle.layout.specs.Sizes.{configSize, filtersSize, mappedSize, periodicsSize, writtenSize, flightSize, queueSize, sendingSize, receivingSize, flagsAt, filtersAt, periodicsAt, receivingAt, lastAt, linkAt, regionSize}
 use Rattle.layout.specs.Record.{outCell, inCell}
-use Rattle.layout.specs.Memory.{configFits, config, filters, periodics, sendingPart, receivingPart, lastPart, linkPart, rest, openPart, region}
+use Rattle.layout.specs.Memory.{configFits, config, filters, mapped, periodics, sendingPart, receivingPart, lastPart, linkPart, rest, openPart, region}
 use Rattle.layout.proofs.Places.{Lasts, Ends, Behind}
 use Rattle.link_layout.specs.Sizes.{linkSize}
 use Rattle.codec.proofs.Lists.{all-take}
-use Rattle.layout.proofs.Sizes.{filters-size, periodics-size, written-size, queue-size, sending-size, receiving-size, last-size, config-size}
+use Rattle.layout.proofs.Sizes.{filters-size, mapped-size, periodics-size, written-size, queue-size, sending-size, receiving-size, last-size, config-size}
+use Rattle.map_rule.specs.Map.{mapsSize, maps}
+use Rattle.derived.specs.Derived.{derived, sameBytes}
+use Rattle.filterbank.specs.Part.{FilterPart}
 use Rattle.stored_records.specs.Held.{cell}
 use Rattle.ten_places.specs.Place.{placesValid}
 use Rattle.stored_records.proofs.Parts.{Bytes, less, rest-part, behind-word, both-is, mark-is, byte-valid, at-rest}
@@ -54,6 +57,29 @@ config-flat m t = sym (λ j. settings-is m t j && (isFlags (first-word m j) && m
 -- ---- the parts of an open channel
 
 module _ (flags : ℕ) where
+  -- the filters and the maps
+  module _ (m : List ℕ) (h : length m ≡ mappedSize) where
+    part-is : (k : ℕ) → k ≡ filtersSize → take k m ≡ take filtersSize m
+    part-is k e = ap (λ (n : ℕ). take n m) e
+
+    pub part-there : true ≡ placesValid false flags (take filtersSize m) → FilterPart (take filtersSize m)
+    unfolding placesValid
+    part-there e = record { flags = flags; long = length-take-le filtersSize m (omega arith); valid = subst T e tt }
+
+    pub no-filters : false ≡ placesValid false flags (take filtersSize m) → false ≡ mapped flags .valid m
+    unfolding mapped derived placesValid
+    no-filters e =
+        sym (ap (λ (k : ℕ). filters flags .valid (take k m) && sameBytes (drop k m) (maps (filters flags .get (take k m)))) (filters-size flags)
+        ∙ ap (λ (b : Bool). b && sameBytes (drop filtersSize m) (maps (filters flags .get (take filtersSize m)))) (sym e))
+
+    pub mapped-flat : (b : Bool) → true ≡ placesValid false flags (take filtersSize m) → b ≡ sameBytes (take mapsSize (drop filtersSize m)) (maps (filters flags .get (take filtersSize m))) → b ≡ mapped flags .valid m
+    unfolding mapped derived placesValid
+    mapped-flat b e s =
+        s
+        ∙ ap (λ (x : List ℕ). sameBytes x (maps (filters flags .get (take filtersSize m)))) (rest-part filtersSize mapsSize m h)
+        ∙ sym (ap (λ (k : ℕ). filters flags .valid (take k m) && sameBytes (drop k m) (maps (filters flags .get (take k m)))) (filters-size flags)
+        ∙ ap (λ (b : Bool). b && sameBytes (drop filtersSize m) (maps (filters flags .get (take filtersSize m)))) (sym e))
+
   pub sending-flat : (m : List ℕ) → length m ≡ sendingSize
       → (placesValid true flags (take periodicsSize m) && (upTo mostWritten (cell true flags) .valid (take writtenSize (drop periodicsSize m)) && upTo 1 (cell true flags) .valid (take flightSize (drop (periodicsSize + writtenSize) m)))) ≡ sendingPart flags .valid m
   unfolding sendingPart via upToOne cell placesValid
@@ -85,16 +111,16 @@ module _ (flags : ℕ) where
   -- what lies behind the configuration, each part where it begins in the region
   abbrev pub restTests : List ℕ → Bool
   restTests m =
-      placesValid false flags (take filtersSize (drop filtersAt m))
+      mapped flags .valid (take mappedSize (drop filtersAt m))
       && (sendingPart flags .valid (take sendingSize (drop periodicsAt m))
       && (receivingPart flags .valid (take receivingSize (drop receivingAt m)) && (member (getD m lastAt 0) callCodes && linkPart flags .valid (take linkSize (drop linkAt m)))))
 
   rest-flat : (m : List ℕ) → Bytes m → length m ≡ regionSize → rest flags .valid (drop filtersAt m) ≡ restTests m
-  unfolding rest placesValid
+  unfolding rest
   rest-flat m t h =
-      both-is (filters flags) (Behind flags) filtersSize (drop filtersAt m) (filters-size flags)
-      ∙ ap (λ (b : Bool). filters flags .valid (take filtersSize (drop filtersAt m)) && b)
-      (ap (λ (x : List ℕ). Behind flags .valid x) (drop-drop filtersSize filtersAt m)
+      both-is (mapped flags) (Behind flags) mappedSize (drop filtersAt m) (mapped-size flags)
+      ∙ ap (λ (b : Bool). mapped flags .valid (take mappedSize (drop filtersAt m)) && b)
+      (ap (λ (x : List ℕ). Behind flags .valid x) (drop-drop mappedSize filtersAt m)
       ∙ both-is (sendingPart flags) (Ends flags) sendingSize (drop periodicsAt m) (sending-size flags)
       ∙ ap (λ (b : Bool). sendingPart flags .valid (take sendingSize (drop periodicsAt m)) && b)
       (ap (λ (x : List ℕ). Ends flags .valid x) (drop-drop sendingSize periodicsAt m)

@@ -9,8 +9,8 @@ use octets::all_zero;
 use stored_records::store;
 ghost use mathlib.Core.Path.{_≡_};
 ghost use lib.ListN.{length, drop};
-ghost use Rattle.layout.specs.Sizes.{configSize, sendingSize, receivingSize, flagsAt, regionSize};
-ghost use Rattle.layout.specs.Memory.{config, sendingPart, receivingPart, linkPart, openPart, region};
+ghost use Rattle.layout.specs.Sizes.{configSize, mappedSize, sendingSize, receivingSize, flagsAt, regionSize};
+ghost use Rattle.layout.specs.Memory.{config, mapped, sendingPart, receivingPart, linkPart, openPart, region};
 ghost use Rattle.link_layout.specs.Sizes.{linkSize};
 
 // In the configuration, behind the flags; in the sending part, behind the periodics.
@@ -28,6 +28,20 @@ pub fn configuration(s: &[u8]) -> bool
     ensures { λ r. ⌜ r ≡ config .valid (now (s .entry)) ⌝ }
 {
     (s[LOOPBACK_IN] <= 1) & (is_flags(word_at(s, 0)) & is_known_rate(word_at(s, RATE_IN)))
+}
+
+// Ten filters, and behind them the maps that follow from them.
+fn filters(s: &[u8], flags: u32) -> bool
+    requires { ⌜ length (now s) ≡ mappedSize ⌝ }
+    ensures { λ r. ⌜ r ≡ mapped flags .valid (now (s .entry)) ⌝ }
+{
+    if !ten_places::valid(&s[0..places::FILTERS_SIZE], flags, false) {
+        return false;
+    }
+    maps::fit(
+        &s[0..places::FILTERS_SIZE],
+        &s[places::FILTERS_SIZE..places::MAPPED_SIZE],
+    )
 }
 
 // Periodics, at most 16 written records, at most one in flight.
@@ -69,7 +83,7 @@ fn opened(s: &[u8]) -> bool
 {
     let flags = word_at(s, places::FLAGS);
     configuration(&s[places::FLAGS..places::FILTERS])
-        & (ten_places::valid(&s[places::FILTERS..places::PERIODICS], flags, false)
+        & (filters(&s[places::FILTERS..places::PERIODICS], flags)
             & (sending(&s[places::PERIODICS..places::RECEIVING], flags)
                 & (receiving(&s[places::RECEIVING..places::RECEIVING_END], flags)
                     & (is_kept(wide(s[places::LAST]))

@@ -16,7 +16,6 @@ use Rattle.filterbank.specs.Part.{FilterPart}
 use Rattle.filterbank.proofs.Held.{rowAt, ten-held, held-at, type-at, width-at, size-at, mask-at, pattern-at, kind-known, size-small}
 use Rattle.filterwalk.specs.Columns.{listed, Heads, noneOf, tenRows, filterAt, filtersIn}
 use Rattle.filterwalk.proofs.Listed.{listed-long, listed-at}
-use Rattle.filterwalk.proofs.Looks.{none-hits, none-passed}
 
 module _ (m : List ℕ) (v : FilterPart m) where
   abbrev columns : ℕ → Option Filter
@@ -35,20 +34,12 @@ module _ (m : List ℕ) (v : FilterPart m) where
       ))
 
   -- the ten filters of the columns are those that are held
-  columns-held : (flags : ℕ) → filtersIn (take masksIn m) (tenRows masksIn m) (tenRows patternsIn m) ≡ filters flags .get m
+  pub columns-held : (flags : ℕ) → filtersIn (take masksIn m) (tenRows masksIn m) (tenRows patternsIn m) ≡ filters flags .get m
   unfolding filtersIn
   columns-held flags =
       let ten : length (listed mostPlaces columns) ≡ mostPlaces = listed-long columns mostPlaces in
       ext-getD none (listed mostPlaces columns) (filters flags .get m) (ten ∙ sym (ten-held m v flags))
       (λ i h. let k : i < mostPlaces = omega arith in listed-at columns mostPlaces i none k ∙ found-at i k ∙ sym (held-at m v i k flags))
-
-  -- a verdict on the columns is one on what is held
-  pub found : (masks patterns : List (List ℕ)) (wide : Bool) (frame : List ℕ) (b : Bool) → masks ≡ tenRows masksIn m → patterns ≡ tenRows patternsIn m
-      → b ≡ passes (filtersIn (take masksIn m) masks patterns) wide frame → (flags : ℕ) → b ≡ passes (filters flags .get m) wide frame
-  found masks patterns wide frame b em ep e flags =
-      e
-      ∙ ap₂ (λ (x y : List (List ℕ)). passes (filtersIn (take masksIn m) x y) wide frame) em ep
-      ∙ ap (λ (fs : Slots Filter). passes fs wide frame) (columns-held flags)
 
   -- the heads of the filters that are held, as they are lent
   pub heads-held : Heads (take masksIn m)
@@ -58,10 +49,3 @@ module _ (m : List ℕ) (v : FilterPart m) where
         kinds = λ f h. subst (λ (k : ℕ). k ≤ 2) (sym (getD-take masksIn m f 0 (omega arith))) (kind-known m v f h);
         sizes = λ f h. subst (λ (k : ℕ). k ≤ mostData) (sym (getD-take masksIn m (sizesIn + f) 0 (omega arith))) (size-small m v f h);
       }
-
-  -- with no pass filter no frame is let in
-  pub none-held : (wide : Bool) (bytes : List ℕ) → true ≡ noneOf (take masksIn m) 1 → (flags : ℕ) → false ≡ passes (filters flags .get m) wide bytes
-  none-held wide bytes z flags =
-      none-passed (filtersIn (take masksIn m) (tenRows masksIn m) (tenRows patternsIn m)) wide bytes
-      (none-hits (take masksIn m) (tenRows masksIn m) (tenRows patternsIn m) 1 wide bytes heads-held (omega arith) (omega arith) z)
-      ∙ ap (λ (fs : Slots Filter). passes fs wide bytes) (columns-held flags)

@@ -1,2 +1,4 @@
 pub mod Columns
 pub mod Frame
+pub mod Kept
+pub mod ByMaps

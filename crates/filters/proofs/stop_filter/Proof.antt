@@ -1,6 +1,7 @@
 -- `filters::stop_filter` meets its contract: a number that has no filter is refused, and a place that is freed is zeros. Assumes nothing.
 use mathlib.Core.Path.{_≡_, refl, sym, _∙_}
 use mathlib.Core.Bool.{true}
+use mathlib.Core.List.{[]}
 use mathlib.Core.Option.{none}
 use native.Mathlib.Omega.{arith}
 use denote.Ref.{now}
@@ -9,7 +10,7 @@ use borrow.Author.Tests.{not-true, not-false}
 use Rattle.codec.specs.Plain.{within}
 use Rattle.machine.specs.Limits.{mostPlaces}
 use Rattle.filterbank.proofs.Lent.{part-lent}
-use Rattle.filters.proofs.OnRegion.{place-of, no-number, not-held, stopped}
+use Rattle.filters.proofs.OnRegion.{place-of, no-number, not-held, stop-unmapped, stopped}
 use Rattle.filters.proofs.stop_filter.Statement.{statement}
 use Rattle.filters.proofs.stop_filter.Tie as tie
 
@@ -40,14 +41,22 @@ put-place-requires c κs =
     let start = at .before .before .before in
     (part-lent (now (start .args .r)) (start .pre), place-of _ (one-of-ten at) .1, refl, refl)
 
+remake-requires : tie.Need-remake-requires
+remake-requires c κs =
+    let put = c .before .before .before in
+    let at = put .before .before .before .before .before .before in
+    let start = at .before .before .before in
+    stop-unmapped (now (start .args .r)) (start .pre) [] 0 (start .args .number) (one-of-ten at) (put .before .before .before .before .if2 .left) (put .put-place .last .0) (λ flags. put .put-place .ensures flags none refl)
+
 returns-3 : tie.Need-returns-3
 returns-3 c =
-    let put = c .before .before in
+    let made = c .before .before in
+    let put = made .before .before .before .before in
     let at = put .before .before .before .before .before .before in
     let start = at .before .before .before in
     λ rates t.
-    stopped (now (start .args .r)) (start .pre) rates t (start .args .number) (one-of-ten at) (put .before .before .before .before .if2 .left)
-    (put .put-place .last .0) (λ flags. put .put-place .ensures flags none refl)
+    stopped (now (start .args .r)) (start .pre) rates t (start .args .number) (one-of-ten at) (put .before .before .before .before .if2 .left) (put .put-place .last .0)
+    (λ flags. put .put-place .ensures flags none refl) (made .remake .last .0) (made .remake .ensures)
 
 pub stop-filter-spec : {M : Type 1} → statement M
 stop-filter-spec =
@@ -65,5 +74,9 @@ stop-filter-spec =
     (λ c. search needs)
     (λ c. search needs)
     put-place-requires
+    (λ c. search needs)
+    (λ c. search needs)
+    (λ c. search needs)
+    remake-requires
     (λ c. search needs)
     returns-3)

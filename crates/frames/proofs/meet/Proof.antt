@@ -27,6 +27,7 @@ offer-requires-2 c κs =
     let b : List ℕ = now (start .args .bytes) in (
       heard-open (now (start .args .r)) (start .pre .0) (start .args .clock) (start .args .wide) (start .args .id) b (idBytes (start .args .id) ++ b) (c .before .before .before .before .before .if1 .left) (bytes-of b (λ i. known .shared-slice-known .given i .fits)) (c .before .before .before .hears .ensures),
       start .pre .1,
+      start .pre .2,
     )
 
 returns-2 : tie.Need-returns-2

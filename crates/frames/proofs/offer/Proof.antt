@@ -4,8 +4,8 @@ use Prim.Native.Nat.{ℕ}
 use borrow.Author.Tests.{not-true, not-false}
 use denote.Ref.{now}
 use Rattle.machine.specs.Message.{idBytes}
-use Rattle.filterbank.proofs.Lent.{part-lent}
-use Rattle.frames.proofs.Laws.{as-row, not-taken, kept-out, let-in, width-taken, frame-long, row-holds, verdict-is}
+use Rattle.filterbank.proofs.Lent.{mapped-lent}
+use Rattle.frames.proofs.Laws.{as-row, not-taken, kept-out, let-in, width-taken, frame-long, row-holds, row-is, verdict-is}
 use borrow.Author.Needs.{needs}
 use Rattle.frames.proofs.offer.Statement.{statement}
 use Rattle.frames.proofs.offer.Tie as tie
@@ -21,7 +21,7 @@ returns c =
 lets-in-requires : tie.Need-lets-in-requires
 lets-in-requires c κs =
     let start = c .before .before .before .before .before .before .before .before .before .before .before .before in
-    (part-lent (now (start .args .r)) (start .pre .0), row-holds (start .args .id) (now (start .args .bytes)) _ (c .before .before .before .before .put-frame .ensures ∙ as-row _))
+    (mapped-lent (now (start .args .r)) (start .pre .0), row-holds (start .args .id) (now (start .args .bytes)) _ (c .before .before .before .before .put-frame .ensures ∙ as-row _), start .pre .2)
 
 returns-2 : tie.Need-returns-2
 returns-2 c =
@@ -30,7 +30,7 @@ returns-2 c =
     let b : List ℕ = idBytes (start .args .id) ++ now (start .args .bytes) in
     kept-out r (start .pre .0) (start .args .clock) (start .args .wide) b
     (sym (width-taken r (start .pre .0) (start .args .clock) (start .args .wide) b _ _ (c .before .before .before .before .before .before .before .before .before .before .word-at .ensures .0) (c .before .before .before .before .before .before .before .before .before .takes-width .ensures)) ∙ not-false _ (c .before .before .before .before .before .before .before .before .if1 .left))
-    (sym (verdict-is r (start .pre .0) (start .args .clock) (start .args .wide) b _ _ _ (c .before .before .before .before .before .before .put-frame .ensures ∙ as-row b) (frame-long (start .args .id) (now (start .args .bytes))) (c .before .lets-in .ensures)) ∙ not-true _ (c .if2 .taken))
+    (sym (verdict-is r (start .pre .0) (start .args .clock) (start .args .wide) b _ (λ flags. c .before .lets-in .ensures flags (now (start .args .bytes)) (row-is r (start .pre .0) (start .args .clock) (start .args .wide) b _ _ (c .before .before .before .before .before .before .put-frame .ensures ∙ as-row b) (frame-long (start .args .id) (now (start .args .bytes)))))) ∙ not-true _ (c .if2 .taken))
 
 returns-3 : tie.Need-returns-3
 returns-3 c =
@@ -39,7 +39,7 @@ returns-3 c =
     let b : List ℕ = idBytes (start .args .id) ++ now (start .args .bytes) in
     let-in r (start .pre .0) (start .args .clock) (start .args .wide) b
     (sym (width-taken r (start .pre .0) (start .args .clock) (start .args .wide) b _ _ (c .before .before .before .before .before .before .before .before .before .before .before .before .before .before .word-at .ensures .0) (c .before .before .before .before .before .before .before .before .before .before .before .before .before .takes-width .ensures)) ∙ not-false _ (c .before .before .before .before .before .before .before .before .before .before .before .before .if1 .left))
-    (sym (verdict-is r (start .pre .0) (start .args .clock) (start .args .wide) b _ _ _ (c .before .before .before .before .before .before .before .before .before .before .put-frame .ensures ∙ as-row b) (frame-long (start .args .id) (now (start .args .bytes))) (c .before .before .before .before .before .lets-in .ensures)) ∙ not-false _ (c .before .before .before .before .if2 .left))
+    (sym (verdict-is r (start .pre .0) (start .args .clock) (start .args .wide) b _ (λ flags. c .before .before .before .before .before .lets-in .ensures flags (now (start .args .bytes)) (row-is r (start .pre .0) (start .args .clock) (start .args .wide) b _ _ (c .before .before .before .before .before .before .before .before .before .before .put-frame .ensures ∙ as-row b) (frame-long (start .args .id) (now (start .args .bytes)))))) ∙ not-false _ (c .before .before .before .before .if2 .left))
     _ (c .before .before .receive .ensures)
 
 pub offer-spec : {M : Type 1} → statement M

@@ -1,17 +1,21 @@
--- `maps::remake` meets its contract. Assumes nothing.
-use mathlib.Core.Path.{refl}
+-- `maps::remake` meets its contract: the filters stay, and the maps behind them are those that follow. Assumes nothing.
+use mathlib.Core.Path.{refl, sym, subst}
 use denote.Ref.{now}
-use Rattle.layout.specs.Memory.{filters}
-use Rattle.map_rule.specs.Map.{mapSize}
-use Rattle.maps.proofs.Parts.{remade}
 use borrow.Author.Needs.{needs}
+use Rattle.filterbank.specs.Part.{FilterPart}
+use Rattle.maps.proofs.Parts.{behind}
 use Rattle.maps.proofs.remake.Statement.{statement}
 use Rattle.maps.proofs.remake.Tie as tie
 
+write-requires : tie.Need-write-requires
+write-requires c κs =
+    let copied = c .before .before .before in
+    (subst FilterPart (sym (copied .copy .ensures)) (copied .before .before .before .before .before .pre .part), search needs)
+
 returns : tie.Need-returns
 returns c =
-    let g = c .before .before .before .before .before .before .before .before .before .before in
-    λ flags. remade (filters flags .get (now (g .args .part))) (now (g .args .map)) _ _ mapSize mapSize (g .pre .1) refl refl (c .before .before .before .before .before .before .make .ensures flags) (c .before .before .make2 .ensures flags)
+    let start = c .before .before .before .before .before .before .before .before .before .before .before in
+    λ flags. behind flags (now (start .args .m)) _ _ _ (start .pre) refl (c .before .before .before .before .before .before .copy .ensures) (c .before .before .write .ensures flags)
 
 pub remake-spec : {M : Type 1} → statement M
 remake-spec =
@@ -20,10 +24,12 @@ remake-spec =
     (λ c. search needs)
     (λ c. search needs)
     (λ c. search needs)
-    (λ c κs. search needs)
-    (λ c. search needs)
-    (λ c. search needs)
     (λ c. search needs)
     (λ c κs. search needs)
+    (λ c. search needs)
+    (λ c. search needs)
+    (λ c. search needs)
+    (λ c. search needs)
+    write-requires
     (λ c. search needs)
     returns)

@@ -1,8 +1,7 @@
 -- `validity::opened` meets its contract. Assumes nothing.
 use Rattle.validity.proofs.Region.{open-flat}
-use Rattle.ten_places.specs.Place.{placesSize, placesValid}
-use Rattle.layout.specs.Memory.{sendingPart, receivingPart, linkPart}
-use Rattle.layout.specs.Sizes.{filtersSize, sendingSize, receivingSize, filtersAt, periodicsAt, receivingAt, linkAt}
+use Rattle.layout.specs.Memory.{mapped, sendingPart, receivingPart, linkPart}
+use Rattle.layout.specs.Sizes.{mappedSize, sendingSize, receivingSize, filtersAt, periodicsAt, receivingAt, linkAt}
 use Rattle.link_layout.specs.Sizes.{linkSize}
 use lib.ListN.{take, drop}
 use Prim.Native.Nat.{ℕ}
@@ -15,10 +14,6 @@ use borrow.Author.Needs.{needs}
 use Rattle.validity.proofs.opened.Statement.{statement}
 use Rattle.validity.proofs.opened.Tie as tie
 
-valid-requires : tie.Need-valid-requires
-unfolding placesSize
-valid-requires c κs = search needs
-
 returns : tie.Need-returns
 returns c = let told = c .before .before in
     let received = told .before .before .before in
@@ -29,7 +24,7 @@ returns c = let told = c .before .before in
     let start = first .before .before in
     let s : List ℕ = start .args .s .now in
     let f = first .word-at .ensures .0 in
-    let filters = placed .valid .ensures ∙ ap (λ (k : ℕ). placesValid false k (take filtersSize (drop filtersAt s))) f in
+    let filters = placed .filters .ensures ∙ ap (λ (k : ℕ). mapped k .valid (take mappedSize (drop filtersAt s))) f in
     let sends = sent .sending .ensures ∙ ap (λ (k : ℕ). sendingPart k .valid (take sendingSize (drop periodicsAt s))) f in
     let receives = received .receiving .ensures ∙ ap (λ (k : ℕ). receivingPart k .valid (take receivingSize (drop receivingAt s))) f in
     let kept = told .is-kept .ensures ∙ ap (λ (k : ℕ). member k callCodes) (told .before .wide .ensures .0) in
@@ -49,7 +44,7 @@ opened-spec =
     (λ c. search needs)
     (λ c. search needs)
     (λ c. search needs)
-    valid-requires
+    (λ c κs. search needs)
     (λ c. search needs)
     (λ c. search needs)
     (λ c. search needs)
