@@ -81,7 +81,13 @@ fn play(
 }
 
 // Plays an event with the rates of its recording's edition.
-fn play_by_edition(mem: &mut [u8], recording: &[u8], e: Event, out: &mut [u8], at: usize) -> usize
+pub fn play_by_edition(
+    mem: &mut [u8],
+    recording: &[u8],
+    e: Event,
+    out: &mut [u8],
+    at: usize,
+) -> usize
     requires { ⌜ T (valid (now mem)) × EventThere (now recording) e × (at + eventRoom ≤ length (now out)) ⌝ }
     ensures { λ r. ⌜ Answered (ratesOf (now (recording .entry))) (eventOf (now (recording .entry)) e) (now (mem .entry)) (now (out .entry)) at r (now (mem .exit)) (now (out .exit)) ⌝ }
 {

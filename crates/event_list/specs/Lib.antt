@@ -1,0 +1,2 @@
+-- The events of a recording. Assumes nothing.
+pub mod Run

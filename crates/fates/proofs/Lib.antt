@@ -1,0 +1,2 @@
+-- Laws of what becomes of a frame. Assumes nothing.
+pub mod Laws

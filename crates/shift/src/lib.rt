@@ -1,0 +1,1 @@
+// The shift report of a recording: definitions in specs/, laws in proofs/. No code.

@@ -1,0 +1,2 @@
+-- The laws of sums side by side. Assumes nothing.
+pub mod Plus

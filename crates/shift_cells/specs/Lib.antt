@@ -1,0 +1,2 @@
+-- Sums side by side. Assumes nothing.
+pub mod Sums

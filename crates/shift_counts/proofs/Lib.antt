@@ -1,0 +1,3 @@
+-- What each event adds. Assumes nothing.
+pub mod Blocks
+pub mod Lines

@@ -1,0 +1,2 @@
+-- What an event adds. Assumes nothing.
+pub mod Adds

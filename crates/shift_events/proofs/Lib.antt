@@ -1,0 +1,2 @@
+-- What each event adds, on a valid memory. Assumes nothing.
+pub mod Counting

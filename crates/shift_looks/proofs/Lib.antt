@@ -1,0 +1,2 @@
+-- What the region of a raw channel says. Assumes nothing.
+pub mod Looking

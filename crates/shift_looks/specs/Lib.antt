@@ -1,0 +1,2 @@
+-- What is looked at before an event. Assumes nothing.
+pub mod Looks

@@ -1,0 +1,2 @@
+-- The places of the shift report's numbers. Assumes nothing.
+pub mod Places
