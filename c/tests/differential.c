@@ -39,9 +39,6 @@ static int refused(const event *e, reply r) {
 
 static uint8_t last[CHANNELS + 1]; /* by channel */
 
-/* the channel that a connect is about; 0 where there is none */
-static uint32_t connects(const event *e) { return e->a > 3 ? 0 : e->b == 5 ? e->a + 1 : e->b == 6 ? e->a + 5 : 0; }
-
 static int is_open(const uint8_t *memory, uint32_t channel) { return is_channel(channel) && memory[region_of(channel)]; }
 
 static void note(const event *e, reply r) {
@@ -476,28 +473,6 @@ static void lists(void) {
 
 /* ---- demand 3 as an experiment ---- */
 
-/* the channels that an event concerns, a bit each: those of a frame's line, the one that a connect is about or a call names, or all */
-static uint32_t concerned(const event *e) {
-    if (e->kind == ADVANCE || e->kind == CLOSE) return 0x1FE;
-    if (e->kind == FRAME) return e->a > 3 ? 0 : 0x22u << e->a;
-    if (e->kind == CONNECT) return connects(e) ? 1u << connects(e) : 0;
-    if (raw_only(e->kind) && is_iso(e->a)) return 0;
-    return is_channel(e->a) ? 1u << e->a : 0;
-}
-
-/* the first events of a sequence: channels 1 to 4 with a connection that stands */
-static void opening(event *e, uint32_t i) {
-    static const char *const replies[2] = {"\0\xD0\0\3\x40\7\1", "\xA1\3\x8A\xFF\x32\xFF"};
-    uint32_t line = i % 4, step = i / 4;
-    if (step == 0) connect_event(e, line, 5, 0x800, 500000);
-    if (step == 1) link_event(e, line + 1, 5, 0x8A, 0x32);
-    if (step < 2) return;
-    connect_event(e, line, 0, step == 2 ? 0x201 : 0x300, 0);
-    e->kind = FRAME;
-    lend(&e->first, step == 2 ? 7 : 6);
-    memcpy(bytes(&e->first), replies[step - 2], e->first.n);
-}
-
 static void isolation(uint32_t rounds) {
     static event es[EVENTS], e;
     static reply rs[EVENTS];
@@ -507,7 +482,7 @@ static void isolation(uint32_t rounds) {
         memset(core, 0, TRAWL_MEMORY);
         for (int i = 0; i < EVENTS; i++) {
             random_event(&es[i], 5);
-            if (r % 2 && i < 16) opening(&es[i], (uint32_t)i);
+            if (r % 2 && i < OPENINGS) opening_event(&es[i], (uint32_t)i);
             e = es[i];
             rs[i] = on_core(core, TRAWL_MEMORY, &e);
             buffers[i] = e.first;

@@ -284,6 +284,30 @@ void random_event(event *e, int damage) {
     }
 }
 
+/* ---- what an event is about ---- */
+
+uint32_t connects(const event *e) { return e->a > 3 ? 0 : e->b == 5 ? e->a + 1 : e->b == 6 ? e->a + 5 : 0; }
+
+uint32_t concerned(const event *e) {
+    if (e->kind == ADVANCE || e->kind == CLOSE) return 0x1FE;
+    if (e->kind == FRAME) return e->a > 3 ? 0 : 0x22u << e->a;
+    if (e->kind == CONNECT) return connects(e) ? 1u << connects(e) : 0;
+    if (raw_only(e->kind) && is_iso(e->a)) return 0;
+    return is_channel(e->a) ? 1u << e->a : 0;
+}
+
+void opening_event(event *e, uint32_t i) {
+    static const char *const replies[2] = {"\0\xD0\0\3\x40\7\1", "\xA1\3\x8A\xFF\x32\xFF"};
+    uint32_t line = i % 4, step = i / 4;
+    if (step == 0) connect_event(e, line, 5, 0x800, 500000);
+    if (step == 1) link_event(e, line + 1, 5, 0x8A, 0x32);
+    if (step < 2) return;
+    connect_event(e, line, 0, step == 2 ? 0x201 : 0x300, 0);
+    e->kind = FRAME;
+    lend(&e->first, step == 2 ? 7 : 6);
+    memcpy(bytes(&e->first), replies[step - 2], e->first.n);
+}
+
 /* a call that gives a number writes it whatever its code: it begins as one that no call gives */
 static uint32_t stale(int kind) {
     switch (kind) {

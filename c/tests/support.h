@@ -47,6 +47,14 @@ void random_event(event *e, int damage); /* damage: percent of numbers, records 
 void connect_event(event *e, uint32_t line, uint32_t protocol, uint32_t flags, uint32_t rate);
 int raw_only(int kind);        /* a call of a TP2.0 connection, or the decision: it names channels 1 to 4 */
 void link_event(event *e, uint32_t channel, uint32_t block_size, uint32_t t1, uint32_t t3); /* an opening: own 0x200, destination 1, RX-ID 0x300 */
+
+/* events 0 to 15 of a sequence: channels 1 to 4 with a connection that stands */
+enum { OPENINGS = 16 };
+void opening_event(event *e, uint32_t i);
+
+uint32_t connects(const event *e);  /* the channel that a connect is about; 0 where there is none */
+uint32_t concerned(const event *e); /* the channels that an event concerns, a bit each: those of a frame's line, the one that is named, or all */
+
 reply on_core(uint8_t *memory, size_t length, event *e);
 reply on_twin(uint8_t *memory, size_t length, event *e);
 
