@@ -1,0 +1,4 @@
+pub mod Far
+pub mod Taking
+pub mod Lines
+pub mod Promise

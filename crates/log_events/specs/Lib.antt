@@ -1,0 +1,2 @@
+-- The events of a line. Assumes nothing.
+pub mod Data

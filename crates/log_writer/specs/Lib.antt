@@ -1,0 +1,2 @@
+-- The text of a line by its pieces. Assumes nothing.
+pub mod Pieces
