@@ -16,21 +16,27 @@ pub fn plain_code(mem: &mut [u8], rates: &[u32], recording: &[u8], e: Plain) -> 
     ensures { λ c. ⌜ gives c 0 [] (now (mem .exit)) ≡ outcome (now (rates .entry)) (now (mem .entry)) (plainOf (now (recording .entry)) e) ⌝ }
 {
     match e {
-        Plain::Disconnect(channel) => owned::disconnect(mem, channel),
-        Plain::Close => owned::close(mem),
-        Plain::Advance(us) => owned::advance(mem, us),
+        Plain::Disconnect(channel) => box_channels::disconnect(mem, channel),
+        Plain::Close => box_lines::close(mem),
+        Plain::Advance(us) => box_times::advance(mem, us),
         Plain::Frame {
             line,
             wide,
             id,
             from,
             end,
-        } => owned::frame(mem, line, wide, id, &recording[from..end]),
-        Plain::StopFilter(channel, filter) => owned::stop_filter(mem, channel, filter),
-        Plain::StopPeriodic(channel, periodic) => owned::stop_periodic(mem, channel, periodic),
-        Plain::Sent(channel) => owned::sent(mem, channel),
-        Plain::Clear(channel, kind) => owned::clear(mem, channel, kind),
-        Plain::Set(channel, parameter, value) => owned::set(mem, rates, channel, parameter, value),
+        } => box_frames::frame(mem, line, wide, id, &recording[from..end]),
+        Plain::StopFilter(channel, filter) => box_orders::stop_filter(mem, channel, filter),
+        Plain::StopPeriodic(channel, periodic) => box_orders::stop_periodic(mem, channel, periodic),
+        Plain::Sent(channel) => box_traffic::sent(mem, channel),
+        Plain::Clear(channel, kind) => box_channels::clear(mem, channel, kind),
+        Plain::Set(channel, parameter, value) => box_channels::set(
+            mem,
+            rates,
+            channel,
+            parameter,
+            value,
+        ),
     }
 }
 
@@ -41,7 +47,7 @@ pub fn giving_answer(mem: &mut [u8], rates: &[u32], recording: &[u8], e: Giving)
 {
     match e {
         Giving::Connect(line, protocol, flags, rate) => {
-            owned::connect(mem, rates, line, protocol, flags, rate)
+            box_connecting::connect(mem, rates, line, protocol, flags, rate)
         }
         Giving::StartFilter {
             channel,
@@ -49,7 +55,7 @@ pub fn giving_answer(mem: &mut [u8], rates: &[u32], recording: &[u8], e: Giving)
             mask,
             pattern,
             end,
-        } => owned::start_filter(
+        } => box_orders::start_filter(
             mem,
             channel,
             kind,
@@ -63,7 +69,7 @@ pub fn giving_answer(mem: &mut [u8], rates: &[u32], recording: &[u8], e: Giving)
             pattern,
             flow,
             end,
-        } => owned::start_flow_filter(
+        } => box_orders::start_flow_filter(
             mem,
             channel,
             kind,
@@ -76,7 +82,7 @@ pub fn giving_answer(mem: &mut [u8], rates: &[u32], recording: &[u8], e: Giving)
             from,
             end,
             interval,
-        } => owned::start_periodic(mem, channel, &recording[from..end], interval),
-        Giving::Get(channel, parameter) => owned::get(mem, channel, parameter),
+        } => box_orders::start_periodic(mem, channel, &recording[from..end], interval),
+        Giving::Get(channel, parameter) => box_channels::get(mem, channel, parameter),
     }
 }

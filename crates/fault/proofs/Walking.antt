@@ -14,7 +14,7 @@ use Rattle.events.specs.declared.Found.{Found}
 use Rattle.events.specs.declared.Found.the-variants as found
 use Rattle.events.specs.Events.{readEvent}
 use Rattle.events.specs.Found.{eventOf, foundOf, ReadsEvent}
-use Rattle.events.proofs.Ending.{least, event-ends}
+use Rattle.events.proofs.Ending.{one-at-least, event-ends}
 use Rattle.fault.specs.declared.Spot.{Spot}
 use Rattle.fault.specs.Fault.{fault, nothing, met, eventFault, faultFrom, faultIn}
 
@@ -56,14 +56,6 @@ module _ (s : List ℕ) (at n : ℕ) where
   from-on turns h enough =
       let one : turns ≡ suc (turns - 1) = omega arith in
       ap (λ (t : ℕ). faultFrom t s n at) one ∙ rw (lt-leb (length s) at h)
-
--- every event has a byte or more
-one-at-least : (e : machine.Event) → 1 ≤ least e
-one-at-least (machine.connect l p f r) = omega arith
-one-at-least (machine.call k x) = omega arith
-one-at-least (machine.frame l w i b) = omega arith
-one-at-least (machine.advance t) = omega arith
-one-at-least machine.close = omega arith
 
 module _ {s : List ℕ} {at n : ℕ} (p : Walking s at n) where
   -- the end

@@ -10,8 +10,10 @@ use Rattle.codec.specs.Plain.{all, isByte}
 use Rattle.codec.proofs.Lists.{all-take, all-drop}
 use Rattle.machine.specs.Step as machine
 use Rattle.layout.specs.Reach.{Bytes}
+use Rattle.layout.proofs.Calls.{Known, three-known, two-known}
 use Rattle.number.specs.Place.{Written}
-use Rattle.edition.specs.Edition.{markAt}
+use Rattle.edition.specs.Edition.{marked, ratesOf, markAt}
+use Rattle.edition.proofs.Marked.{new-rates, old-rates}
 use Rattle.events.specs.declared.Plain.{Plain}
 use Rattle.events.specs.declared.Plain.the-variants as plain
 use Rattle.events.specs.declared.Giving.{Giving}
@@ -23,6 +25,14 @@ use Rattle.events.specs.declared.Found.the-variants as found
 use Rattle.events.specs.Events.{readEvent}
 use Rattle.events.specs.Found.{between, plainOf, givingOf, eventOf, foundOf, EventThere, FoundThere, ReadsEvent}
 use Rattle.playing.specs.Step.{Answered, TurnedAs, TurnedBy, Turned}
+
+-- the rates of either edition are out of the three
+pub edition-known : (s : List ℕ) → Known (ratesOf s)
+edition-known s = by-mark (marked s) refl
+  where
+    by-mark : (b : Bool) → marked s ≡ b → Known (ratesOf s)
+    by-mark true e = subst Known (sym (new-rates s e)) two-known
+    by-mark false e = subst Known (sym (old-rates s e)) three-known
 
 -- ---- what an event lends is bytes where the recording is
 

@@ -24,7 +24,7 @@ fn read_into(mem: &mut [u8], out: &mut [u8], at: usize, channel: u32, n: u32) ->
     let unit = recording_sizes::record_on(channel);
     let from = at + 2;
     let end = from + unit * (n as usize);
-    let a = owned::read(mem, channel, n, &mut out[from..end]);
+    let a = box_traffic::read(mem, channel, n, &mut out[from..end]);
     out[at + 1] = a.value as u8;
     out[at] = a.code as u8;
     from + unit * (a.value as usize)
@@ -37,7 +37,7 @@ fn take_into(mem: &mut [u8], out: &mut [u8], at: usize, channel: u32) -> usize
 {
     let from = at + 1;
     let end = from + recording_sizes::record_on(channel);
-    let code = owned::take(mem, channel, &mut out[from..end]);
+    let code = box_traffic::take(mem, channel, &mut out[from..end]);
     out[at] = code as u8;
     if code != codes::STATUS_NOERROR {
         return from;
@@ -72,7 +72,7 @@ fn play(
             from,
             end,
         } => {
-            let a = owned::write(mem, channel, n, &recording[from..end]);
+            let a = box_traffic::write(mem, channel, n, &recording[from..end]);
             answers::put_count(out, at, a.code, a.value)
         }
         Event::Read(channel, n) => read_into(mem, out, at, channel, n),

@@ -25,12 +25,12 @@ use Rattle.recording_sizes.specs.Sizes.{longest, eventRoom}
 use Rattle.edition.specs.Edition.{ratesOf, startOf, markAt}
 use Rattle.edition.proofs.Marked.{at-mark, new-start, start-inside}
 use Rattle.events.specs.Events.{readEvent}
-use Rattle.events.proofs.Ending.{event-ends}
+use Rattle.events.proofs.Ending.{one-at-least, event-ends}
 use Rattle.answers.specs.Output.{answerBytes}
 use Rattle.recording.specs.Replay.{badEvent, replies, played, output, Piece, piece, after, plays, goesOn, eventAt, pieceOf, Left, leaves, written, pieced}
 use Rattle.recording.specs.Joined.{rest, Joined, before, joined}
-use Rattle.recording.proofs.Playing.{one-at-least, ended-stops, full-stops, goes-turn, from-start, no-mark-here, mark-here, at-end}
-use Rattle.recording.proofs.Turning.{edition-known}
+use Rattle.recording.proofs.Playing.{ended-stops, full-stops, goes-turn, from-start, no-mark-here, mark-here, at-end}
+use Rattle.playing.proofs.Turning.{edition-known}
 use Rattle.recording.proofs.Lending.{event-bytes}
 use Rattle.recording.proofs.Promise.{is-piece}
 

@@ -22,20 +22,12 @@ use Rattle.edition.proofs.Marked.{no-mark, at-mark, new-start, start-inside}
 use Rattle.number.specs.Number.{bytesOf}
 use Rattle.number.specs.Place.{Written}
 use Rattle.events.specs.Events.{readEvent}
-use Rattle.events.proofs.Ending.{least, event-ends}
+use Rattle.events.proofs.Ending.{one-at-least, event-ends}
 use Rattle.answers.specs.Output.{answerBytes}
 use Rattle.answers.specs.Put.{Put}
 use Rattle.answers.proofs.Put.{put-number, put-length, put-then}
 use Rattle.playing.specs.Step.{Answered}
 use Rattle.recording.specs.Replay.{badEvent, Piece, piece, after, plays, goesOn, eventAt, leaves, written}
-
--- an event has a byte or more
-pub one-at-least : (e : Event) → 1 ≤ least e
-one-at-least (connect l p f r) = omega arith
-one-at-least (call k x) = omega arith
-one-at-least (frame l w n b) = omega arith
-one-at-least (advance t) = omega arith
-one-at-least close = omega arith
 
 -- ---- the events from a place on, in so much room
 

@@ -11,21 +11,13 @@ use Rattle.machine.specs.Step as machine
 use Rattle.memory.specs.Memory.{load, valid}
 use Rattle.recording_sizes.specs.Sizes.{eventRoom}
 use Rattle.events.specs.Events.{readEvent}
-use Rattle.events.proofs.Ending.{event-ends}
-use Rattle.layout.proofs.Calls.{Known, three-known, two-known}
-use Rattle.edition.specs.Edition.{marked, ratesOf, markAt}
-use Rattle.edition.proofs.Marked.{new-rates, old-rates, at-mark, new-start, start-inside}
+use Rattle.events.proofs.Ending.{one-at-least, event-ends}
+use Rattle.edition.specs.Edition.{ratesOf, markAt}
+use Rattle.edition.proofs.Marked.{at-mark, new-start, start-inside}
+use Rattle.playing.proofs.Turning.{edition-known}
 use Rattle.playing.specs.Step.{PassedOver, TurnedAs, TurnedBy, Turned}
 use Rattle.recording.specs.Replay.{Piece, goesOn, eventAt, leaves, written}
-use Rattle.recording.proofs.Playing.{one-at-least, Playing, begun, same-output, same-memory, ended, full, passes, stopped, goes-on}
-
--- the rates of either edition are out of the three
-pub edition-known : (s : List ℕ) → Known (ratesOf s)
-edition-known s = by-mark (marked s) refl
-  where
-    by-mark : (b : Bool) → marked s ≡ b → Known (ratesOf s)
-    by-mark true e = subst Known (sym (new-rates s e)) two-known
-    by-mark false e = subst Known (sym (old-rates s e)) three-known
+use Rattle.recording.proofs.Playing.{Playing, begun, same-output, same-memory, ended, full, passes, stopped, goes-on}
 
 -- the device memory, the output, the place in the recording and in the output
 pub record State : Type 0 where

@@ -18,10 +18,9 @@ use Rattle.memory.proofs.Reach.{step-ok, power-on-ok}
 use Rattle.recording_sizes.specs.Sizes.{longest}
 use Rattle.edition.specs.Edition.{ratesOf, startOf}
 use Rattle.events.specs.Events.{readEvent}
-use Rattle.events.proofs.Ending.{event-ends}
+use Rattle.events.proofs.Ending.{one-at-least, event-ends}
 use Rattle.event_list.specs.Run.{andThen, eventsFrom, eventsOf}
-use Rattle.recording.proofs.Playing.{one-at-least}
-use Rattle.recording.proofs.Turning.{edition-known}
+use Rattle.playing.proofs.Turning.{edition-known}
 use Rattle.shift_places.specs.Places.{atHeld, ofReport}
 use Rattle.shift.specs.Report.{eleven, ofFour, numbersOf, allNumbers}
 use Rattle.shift_cells.specs.Sums.{plus, Sums}
