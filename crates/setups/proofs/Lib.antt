@@ -6,3 +6,4 @@ pub mod Setups
 pub mod Calls
 pub mod Length
 pub mod Filling
+pub mod Traces
