@@ -11,7 +11,7 @@ use Rattle.number.specs.Number.{bytesOf}
 use Rattle.number.specs.Reads.{Reads, _>>=_, done, number, bytes, only}
 use Rattle.machine.specs.Limits.{mostPlaces, recordSize}
 use Rattle.machine.specs.Message.{widthFlag, Rec, shown, clean}
-use Rattle.machine.specs.Filter.{Slots, Filter}
+use Rattle.machine.specs.Filter.{Slots, Filter, typeOf}
 
 -- a channel's flags, its filters and periodics by their numbers, its rate and its loopback. Of a periodic the message and the interval are kept; its
 -- pending mark and its place in the interval are no part of it
@@ -38,18 +38,13 @@ eachBytes w (e ∷ es) = bytesOf (e .0) ++ (w (e .1) ++ eachBytes w es)
 unfoldable pub slotsBytes : {A : Type 0} → (A → List ℕ) → Slots A → List ℕ
 slotsBytes w s = bytesOf (length (numbered 1 s)) ++ eachBytes w (numbered 1 s)
 
--- type 1 passes, type 2 blocks
-unfoldable pub typeNumber : Bool → ℕ
-typeNumber true = 2
-typeNumber false = 1
-
 -- a filter's mask or pattern as a clean record
 unfoldable pub rowRecord : Filter → List ℕ → Rec
 rowRecord f row = record { rx = 0; tx = widthFlag (f .wide); time = 0; bytes = take (f .size) row }
 
 -- type, mask, pattern
 unfoldable pub filterBytes : Filter → List ℕ
-filterBytes f = bytesOf (typeNumber (f .block)) ++ (shown (rowRecord f (f .mask)) ++ shown (rowRecord f (f .pattern)))
+filterBytes f = bytesOf (typeOf (f .block)) ++ (shown (rowRecord f (f .mask)) ++ shown (rowRecord f (f .pattern)))
 
 -- record, interval
 unfoldable pub periodicBytes : Rec × ℕ → List ℕ

@@ -15,8 +15,8 @@ use Rattle.number.proofs.Laws.{groups-one, groups-more}
 use Rattle.number.proofs.Groups.{below}
 use Rattle.machine.specs.Codes.{codeOf}
 use Rattle.machine.specs.Message.{shown, Rec}
-use Rattle.machine.specs.Filter.{Slots, Filter}
-use Rattle.machine.specs.Store.{Setup, numbered, eachBytes, slotsBytes, typeNumber, rowRecord, filterBytes, periodicBytes, bodyBytes, storeBytes}
+use Rattle.machine.specs.Filter.{Slots, Filter, typeOf}
+use Rattle.machine.specs.Store.{Setup, numbered, eachBytes, slotsBytes, rowRecord, filterBytes, periodicBytes, bodyBytes, storeBytes}
 use Rattle.machine.specs.Channel.{Open, unless, says, setupOf, onSave}
 use Rattle.setups.specs.Good.{Holds, Every, cleanRec, GoodFilter, GoodPeriodic, GoodSetup}
 use Rattle.setups.specs.Saved.{Rising}
@@ -54,8 +54,7 @@ number-3 v h = three-bytes 2 v h
 
 -- ---- parts
 
-type-1 : (c : Bool) → length (bytesOf (typeNumber c)) ≤ 1
-unfolding typeNumber
+type-1 : (c : Bool) → length (bytesOf (typeOf c)) ≤ 1
 type-1 true = number-1 2 (omega arith)
 type-1 false = number-1 1 (omega arith)
 
@@ -72,7 +71,7 @@ filter-73 flags f g =
     let lm : length m ≡ 36 = shown-long (f .wide) a (omega arith) in
     let lp : length p ≡ 36 = shown-long (f .wide) b (omega arith) in
     let t = type-1 (f .block) in
-    omega (arith, length-append (bytesOf (typeNumber (f .block))) (m ++ p), length-append m p)
+    omega (arith, length-append (bytesOf (typeOf (f .block))) (m ++ p), length-append m p)
 
 periodic-39 : (flags : ℕ) (p : Rec × ℕ) → GoodPeriodic flags p → length (periodicBytes p) ≤ 39
 unfolding periodicBytes

@@ -16,8 +16,8 @@ use Rattle.number.specs.Laws.{Bytes}
 use Rattle.number.specs.Reads.{number, bytes}
 use Rattle.machine.specs.Codes.{codeOf}
 use Rattle.machine.specs.Message.{bit, takes, idOf, idLimit, Rec, twelve, shown, protocolOf, txFlagsOf, sizeOf, wideOf, dataOf, messageCode, clean}
-use Rattle.machine.specs.Filter.{Filter, noneYet, free}
-use Rattle.machine.specs.Store.{typeNumber, rowRecord, filterBytes, periodicBytes, isClean, cleanIn}
+use Rattle.machine.specs.Filter.{Filter, noneYet, free, typeOf}
+use Rattle.machine.specs.Store.{rowRecord, filterBytes, periodicBytes, isClean, cleanIn}
 use Rattle.machine.specs.Channel.{shorter, filterCode, filterOf, periodicCode, filterIn, periodicIn, blank}
 use Rattle.machine.proofs.Tables.{Failed, failed, own-code, yes}
 use Rattle.setups.specs.Good.{Row, GoodFilter, cleanRec, GoodPeriodic}
@@ -127,13 +127,13 @@ module _ (flags n : ℕ) (block wide : Bool) (a b : List ℕ) (low : 1 ≤ n) (h
   hb : length b ≤ 12
   hb = omega arith
 
-  type-T : (c : Bool) → T (within 1 2 (typeNumber c))
-  unfolding within typeNumber
+  type-T : (c : Bool) → T (within 1 2 (typeOf c))
+  unfolding within
   type-T true = tt
   type-T false = tt
 
   -- starting it is not refused
-  start-filter : filterCode (blank flags 0) (typeNumber block) recordA recordB ≡ 0
+  start-filter : filterCode (blank flags 0) (typeOf block) recordA recordB ≡ 0
   unfolding filterCode noneYet free
   start-filter =
       let sa = shown-size wide a ha in
@@ -141,7 +141,7 @@ module _ (flags n : ℕ) (block wide : Bool) (a b : List ℕ) (low : 1 ≤ n) (h
       passed _ (
         nor (shorter recordA 1) (shorter recordB 1) (not-short recordA (shown-long wide a ha)) (not-short recordB (shown-long wide b hb)),
         (
-          no-no (within 1 2 (typeNumber block)) (type-T block),
+          no-no (within 1 2 (typeOf block)) (type-T block),
           (
             same-T (protocolOf recordA) 5 (shown-protocol wide a ha),
             (
@@ -165,12 +165,11 @@ module _ (flags n : ℕ) (block wide : Bool) (a b : List ℕ) (low : 1 ≤ n) (h
       )
 
   -- and gives it back
-  type-back : (c : Bool) → eqb (typeNumber c) 2 ≡ c
-  unfolding typeNumber
+  type-back : (c : Bool) → eqb (typeOf c) 2 ≡ c
   type-back true = refl
   type-back false = refl
 
-  filter-of : filterOf (typeNumber block) recordA recordB ≡ record { block = block; wide = wide; size = n; mask = twelve a; pattern = twelve b }
+  filter-of : filterOf (typeOf block) recordA recordB ≡ record { block = block; wide = wide; size = n; mask = twelve a; pattern = twelve b }
   unfolding filterOf
   filter-of =
       λ i.
@@ -194,7 +193,7 @@ filter-back flags f g =
     let hb : length b ≤ 12 = omega arith in
     let m : List ℕ = shown (cleanRec (f .wide) a) in
     let p : List ℕ = shown (cleanRec (f .wide) b) in
-    let t : ℕ = typeNumber (f .block) in
+    let t : ℕ = typeOf (f .block) in
     let code = start-filter flags (f .size) (f .block) (f .wide) a b (g .low) h la lb (g .width) in
     let is : filterOf t m p ≡ f =
     filter-of flags (f .size) (f .block) (f .wide) a b (g .low) h la lb (g .width)
@@ -204,18 +203,18 @@ filter-back flags f g =
     (last-back _ p f p (clean-in-back (f .wide) b hb)
     (λ s at. where-passes (eqb (filterCode (blank flags 0) t m p) 0) (filterOf t m p) (eq-T (filterCode (blank flags 0) t m p) 0 code) s at ∙ ap (λ (x : Filter). some (x, at)) is)))
   where
-    type-small : (c : Bool) → typeNumber c ≤ largest
-    type-small true = unfold typeNumber in omega arith
-    type-small false = unfold typeNumber in omega arith
+    type-small : (c : Bool) → typeOf c ≤ largest
+    type-small true = omega arith
+    type-small false = omega arith
 
 -- the type that was read is that of the filter
-type-there : (t : ℕ) → T (within 1 2 t) → typeNumber (eqb t 2) ≡ t
+type-there : (t : ℕ) → T (within 1 2 t) → typeOf (eqb t 2) ≡ t
 type-there t h = go t (within-low 1 2 t h) (within-high 1 2 t h)
   where
-    go : (k : ℕ) → 1 ≤ k → k ≤ 2 → typeNumber (eqb k 2) ≡ k
+    go : (k : ℕ) → 1 ≤ k → k ≤ 2 → typeOf (eqb k 2) ≡ k
     go zero a b = absurd (omega arith)
-    go (suc zero) a b = unfold typeNumber in refl
-    go (suc (suc zero)) a b = unfold typeNumber in refl
+    go (suc zero) a b = refl
+    go (suc (suc zero)) a b = refl
     go (suc (suc (suc k))) a b = absurd (omega arith)
 
 wide-same : (m p : List ℕ) → txFlagsOf m ≡ txFlagsOf p → wideOf m ≡ wideOf p
