@@ -7,7 +7,7 @@ use mathlib.Core.Option.{Option, none, some}
 use mathlib.Core.List.{List}
 use Rattle.codec.specs.Plain.{if_then_else_}
 use Rattle.link.specs.Connection.{Connection, absent, Offer}
-use Rattle.number.specs.Reads.{readWhole}
+use Rattle.machine.specs.Store.{readWhole}
 use Rattle.machine.specs.Message.{Rec}
 use Rattle.machine.specs.Channel.{Chan, closed, opened, Open, withConfig, withFilters, withSending, withReceiving, Call, disconnect, startFilter, startFlow, stopFilter, startPeriodic, stopPeriodic, write, read, takeNext, sent, clear, getParameter, setParameter, lastError, getList, setList, opensLink, sendsLink, receivesLink, endsLink, decides, saves, loads, onRaw, says, Outcome, unless, doneWith, onStartFilter, onStopFilter, reading, onRead, onWrite, onStartPeriodic, onStopPeriodic, Next, next, giving, chosen, mayGo, chosenOr, taking, onTake, sending, onSent, onClear, onGet, setTo, onSet, onGetList, onSetList, onLinkOpen, onLinkSend, onLinkReceive, onLinkEnd, onRawCall, onDecide, storeIn, onSave, loaded, onLoad, onOpen}
 use Rattle.machine.proofs.Refusals.{unless-case, if-case, load-case}

@@ -2,7 +2,7 @@
 -- flags takes of them, and the calls, are `Channel`'s. Assumes nothing.
 use Prim.Native.Nat.{ℕ, zero, suc}
 use mathlib.Core.Bool.{Bool, true, false, _&&_}
-use mathlib.Core.Option.{none, some}
+use mathlib.Core.Option.{Option, none, some}
 use mathlib.Core.List.{List, [], _∷_, _++_}
 use lib.ListN.{length, take}
 use lib.Dec.{eqb, leb}
@@ -92,3 +92,12 @@ placed k (suc n) (e ∷ es) = if eqb (e .0) k then some (e .1) ∷ placed (suc k
 -- how many, at most 10, then they
 unfoldable pub slotsIn : {A : Type 0} → Reads A → Reads (Slots A)
 slotsIn p = do n ← only (λ n. leb n mostPlaces) number; es ← eachIn p 0 n; done (placed 1 mostPlaces es)
+
+-- nothing stands after it
+unfoldable pub nothingAfter : {A : Type 0} → ℕ → Option (A × ℕ) → Option A
+nothingAfter long none = none
+nothingAfter long (some r) = if eqb (r .1) long then some (r .0) else none
+
+-- the whole list, from its start to its end
+unfoldable pub readWhole : {A : Type 0} → Reads A → List ℕ → Option A
+readWhole p s = nothingAfter (length s) (p s 0)

@@ -3,7 +3,7 @@ use Prim.Native.Nat.{ℕ, _+_}
 use mathlib.Core.Bool.{Bool}
 use mathlib.Core.List.{List}
 use mathlib.Core.Option.{Option, none, some, Option·map, bind}
-use lib.Dec.{eqb, leb}
+use lib.Dec.{leb}
 use lib.ListN.{length, take, drop}
 use Rattle.codec.specs.Plain.{if_then_else_}
 use Rattle.number.specs.Number.{numberIn}
@@ -41,12 +41,3 @@ where-true t a = if t then done a else bad
 -- only what passes a test
 unfoldable pub only : {A : Type 0} → (A → Bool) → Reads A → Reads A
 only t p = p >>= λ a. where-true (t a) a
-
--- nothing stands after it
-unfoldable pub nothingAfter : {A : Type 0} → ℕ → Option (A × ℕ) → Option A
-nothingAfter long none = none
-nothingAfter long (some r) = if eqb (r .1) long then some (r .0) else none
-
--- the whole list, from its start to its end
-unfoldable pub readWhole : {A : Type 0} → Reads A → List ℕ → Option A
-readWhole p s = nothingAfter (length s) (p s 0)

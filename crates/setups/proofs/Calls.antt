@@ -15,8 +15,7 @@ use Rattle.number.specs.Laws.{Bytes}
 use Rattle.machine.specs.Codes.{codeOf}
 use Rattle.machine.specs.Message.{Rec}
 use Rattle.machine.specs.Filter.{Slots}
-use Rattle.number.specs.Reads.{readWhole}
-use Rattle.machine.specs.Store.{Setup, storeBytes}
+use Rattle.machine.specs.Store.{readWhole, Setup, storeBytes}
 use Rattle.machine.specs.Channel.{Open, Periodic, opened, Outcome, says, doneWith, unless, saveSetup, loadSetup, onRawCall, onOpen, onCall, savedOf, setupOf, storeIn, onSave, startsAnew, loaded, loading, onLoad}
 use Rattle.setups.specs.Good.{GoodSetup}
 use Rattle.setups.specs.Saved.{restarted, Loaded, SavedBack, Done, takesStore}

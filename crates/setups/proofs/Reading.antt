@@ -13,7 +13,8 @@ use lib.Seq.{drop-drop, drop-append-seam, take-at, getD-drop, length-take-le}
 use Rattle.codec.proofs.Tests.{T-true, true-T}
 use Rattle.number.specs.Number.{largest, Found, numberIn, bytesOf}
 use Rattle.number.specs.Laws.{Bytes}
-use Rattle.number.specs.Reads.{Reads, _>>=_, done, bad, number, bytes, where-true, only, nothingAfter, readWhole}
+use Rattle.number.specs.Reads.{Reads, _>>=_, done, bad, number, bytes, where-true, only}
+use Rattle.machine.specs.Store.{nothingAfter, readWhole}
 use Rattle.codec.specs.Plain.{if_then_else_}
 use Rattle.number.proofs.Laws.{reads-back, writes-back, read-bounded}
 

@@ -14,12 +14,12 @@ use Rattle.codec.proofs.Tests.{within-low, within-high, between, true-T}
 use Rattle.number.specs.Number.{largest, numberIn, front, joined, highest, shortest, bytesOf, groups}
 use Rattle.number.specs.Number as numbers
 use Rattle.number.specs.Laws.{Bytes}
-use Rattle.number.specs.Reads.{Reads, _>>=_, bad, number, only, where-true, nothingAfter, readWhole}
+use Rattle.number.specs.Reads.{Reads, _>>=_, bad, number, only, where-true}
+use Rattle.machine.specs.Store.{nothingAfter, readWhole, Setup, numbered, eachBytes, slotsBytes, filterBytes, periodicBytes, bodyBytes, oldBytes, storeBytes, eachIn, placed, slotsIn}
 use Rattle.machine.specs.Filter.{Slots}
-use Rattle.machine.specs.Store.{Setup, numbered, eachBytes, slotsBytes, filterBytes, periodicBytes, bodyBytes, oldBytes, storeBytes, eachIn, placed, slotsIn}
-use Rattle.machine.specs.Channel.{filterIn, periodicIn, bodyIn, oldIn, versionIn, storeIn}
+use Rattle.machine.specs.Channel.{filterIn, periodicIn, bodyIn, versionIn, storeIn}
 use Rattle.setups.specs.Good.{Holds, Every, GoodFilter, GoodPeriodic, GoodSetup}
-use Rattle.setups.specs.Saved.{Exact, Rising}
+use Rattle.setups.specs.Saved.{Exact, Rising, oldIn}
 use Rattle.setups.proofs.Reading.{Back, done-is, bad-there, then-none, only-none, whole-none, then-back, last-back, only-back, done-back, number-back, whole-back, split, Stands, chain, done-there, only-there, number-there, whole-there}
 use Rattle.setups.proofs.Places.{numbered-rising, placed-numbered, numbered-placed, placed-long, numbered-each, placed-each}
 use Rattle.setups.proofs.Parts.{Here, filter-back, filter-there, periodic-back, periodic-there}

@@ -11,24 +11,23 @@ use Rattle.codec.specs.Word.{word, wordAt}
 use Rattle.number.specs.Number as numbers
 use Rattle.number.specs.Number.{groups, bytesOf}
 use Rattle.number.specs.Reads as reads
-use Rattle.number.specs.Reads.{readWhole}
+use Rattle.machine.specs.Store.{readWhole, Setup, numbered, eachBytes, slotsBytes, bodyBytes, oldBytes, storeBytes, sameBytes, isClean, cleanIn, eachIn, placed, slotsIn, nothingAfter}
 use Rattle.machine.specs.Codes.{codeOf, threeRates, twoRates}
 use Rattle.machine.specs.Message.{bit, widthFlag, idBytes, idOf, idLimit, takes, twelve, shown, protocolOf, txFlagsOf, sizeOf, wideOf, dataOf, messageCode, clean}
 use Rattle.machine.specs.Filter.{noneYet, free}
-use Rattle.machine.specs.Store.{Setup, numbered, eachBytes, slotsBytes, bodyBytes, oldBytes, storeBytes, sameBytes, isClean, cleanIn, eachIn, placed, slotsIn}
-use Rattle.machine.specs.Channel.{shorter, filterCode, filterOf, periodicCode, filterIn, periodicIn, bodyIn, oldIn, versionIn, storeIn}
+use Rattle.machine.specs.Channel.{shorter, filterCode, filterOf, periodicCode, filterIn, periodicIn, bodyIn, versionIn, storeIn}
 use Rattle.machine.proofs.Traces.Words.{raw, message}
-use Rattle.setups.specs.Saved.{takesStore}
+use Rattle.setups.specs.Saved.{takesStore, oldIn}
 
 -- ---- the reader with every definition open
 
 -- what the reader makes of a list, and what the old reader does
 unfoldable pub readBy : List ℕ → List ℕ → Option Setup
-unfolding bind within member word wordAt codeOf threeRates twoRates bit widthFlag idOf idLimit takes twelve shown protocolOf txFlagsOf sizeOf wideOf dataOf messageCode clean noneYet free shorter filterCode filterOf periodicCode sameBytes isClean cleanIn filterIn periodicIn eachIn placed slotsIn bodyIn versionIn storeIn numbers.front numbers.joined numbers.highest numbers.shortest numbers.taken numbers.numberIn reads._>>=_ reads.done reads.bad reads.number reads.bytes reads.where-true reads.only reads.nothingAfter reads.readWhole
+unfolding bind within member word wordAt codeOf threeRates twoRates bit widthFlag idOf idLimit takes twelve shown protocolOf txFlagsOf sizeOf wideOf dataOf messageCode clean noneYet free shorter filterCode filterOf periodicCode sameBytes isClean cleanIn filterIn periodicIn eachIn placed slotsIn bodyIn versionIn storeIn numbers.front numbers.joined numbers.highest numbers.shortest numbers.taken numbers.numberIn reads._>>=_ reads.done reads.bad reads.number reads.bytes reads.where-true reads.only nothingAfter readWhole
 readBy rates s = readWhole (storeIn rates) s
 
 unfoldable pub readByOld : List ℕ → List ℕ → Option Setup
-unfolding bind within member word wordAt codeOf threeRates twoRates bit widthFlag idOf idLimit takes twelve shown protocolOf txFlagsOf sizeOf wideOf dataOf messageCode clean noneYet free shorter filterCode filterOf periodicCode sameBytes isClean cleanIn filterIn periodicIn eachIn placed slotsIn bodyIn oldIn numbers.front numbers.joined numbers.highest numbers.shortest numbers.taken numbers.numberIn reads._>>=_ reads.done reads.bad reads.number reads.bytes reads.where-true reads.only reads.nothingAfter reads.readWhole
+unfolding bind within member word wordAt codeOf threeRates twoRates bit widthFlag idOf idLimit takes twelve shown protocolOf txFlagsOf sizeOf wideOf dataOf messageCode clean noneYet free shorter filterCode filterOf periodicCode sameBytes isClean cleanIn filterIn periodicIn eachIn placed slotsIn bodyIn oldIn numbers.front numbers.joined numbers.highest numbers.shortest numbers.taken numbers.numberIn reads._>>=_ reads.done reads.bad reads.number reads.bytes reads.where-true reads.only nothingAfter readWhole
 readByOld rates s = readWhole (oldIn rates) s
 
 -- ---- nothing set

@@ -7,11 +7,15 @@ use mathlib.Core.Option.{Option, none, some}
 use mathlib.Core.List.{List, [], _∷_, map}
 use lib.Dec.{eqb}
 use lib.ListN.{set}
-use Rattle.number.specs.Reads.{readWhole}
+use Rattle.number.specs.Reads.{Reads, _>>=_, number, only}
 use Rattle.machine.specs.Filter.{Slots}
-use Rattle.machine.specs.Store.{Setup, oldBytes, storeBytes}
-use Rattle.machine.specs.Channel.{Open, opened, Outcome, Periodic, storeIn, setupOf}
+use Rattle.machine.specs.Store.{Setup, oldBytes, storeBytes, readWhole}
+use Rattle.machine.specs.Channel.{Open, opened, Outcome, Periodic, bodyIn, storeIn, setupOf}
 use Rattle.setups.specs.Good.{GoodSetup}
+
+-- THE OLD READER, of version 1 alone
+unfoldable pub oldIn : List ℕ → Reads Setup
+oldIn rates = do version ← only (eqb 1) number; bodyIn rates 0
 
 -- WHAT READS AS A SET-UP: its bytes of version 2, or of version 1 where its flags are 0; and the set-up is good
 pub record Exact (rates bs : List ℕ) (s : Setup) : Type 0 where
