@@ -207,7 +207,7 @@ module _ (rates : List ℕ) where
   pub old-back : (st : Setup) → GoodSetup rates st → st .flags ≡ 0 → Back (oldIn rates) st (oldBytes st)
   unfolding oldIn oldBytes
   old-back st g z =
-      then-back _ 1 st (bytesOf 1) (bodyBytes st) (only-back (eqb 1) 1 (bytesOf 1) (number-back 1 (omega arith)) tt)
+      then-back _ 1 st (bytesOf 1) (bodyBytes st) (only-back _ 1 (bytesOf 1) (number-back 1 (omega arith)) tt)
       (subst (λ (k : ℕ). Back (bodyIn rates k) st (bodyBytes st)) z (body-back st g))
 
   pub old-whole : (st : Setup) → GoodSetup rates st → st .flags ≡ 0 → readWhole (storeIn rates) (oldBytes st) ≡ some st
