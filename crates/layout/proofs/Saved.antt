@@ -16,7 +16,7 @@ use Rattle.codec.proofs.Many.{many-count, many-each}
 use Rattle.number.specs.Number.{largest}
 use Rattle.number.specs.Laws as numbers
 use Rattle.machine.specs.Codes.{threeRates}
-use Rattle.machine.specs.Message.{bit, takes, widthFlag, Rec, twelve}
+use Rattle.machine.specs.Message.{bit, widthFlag, Rec, twelve}
 use Rattle.machine.specs.Filter.{Slots, Filter}
 use Rattle.machine.specs.Store.{Setup}
 use Rattle.machine.specs.Channel.{Open, Periodic, opened, isFlags, savedOf, setupOf, onSave, startsAnew, loaded}

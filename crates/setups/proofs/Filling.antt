@@ -1,8 +1,8 @@
 -- Entries put one by one into empty places, as a loop that loads them does. Assumes nothing.
-use Prim.Native.Nat.{ℕ, zero, suc, _+_, _-_, _≤_, _<_}
-use mathlib.Core.Path.{_≡_, refl, sym, ap, _∙_, subst}
+use Prim.Native.Nat.{ℕ, zero, suc, _+_, _-_, _<_}
+use mathlib.Core.Path.{_≡_, refl, sym, ap, ap₂, _∙_, subst}
 use mathlib.Core.Bool.{Bool, true, false}
-use mathlib.Core.List.{List, [], _∷_, _++_, append-assoc}
+use mathlib.Core.List.{List, [], _∷_, _++_, map, append-assoc}
 use mathlib.Core.Option.{Option, none, some}
 use native.Mathlib.Omega.{arith}
 use borrow.Author.Tests.{eqb-true, eqb-false}
@@ -59,3 +59,29 @@ module _ {A : Type 0} where
   pub filled-placed : (es : List (ℕ × A)) → Rising 0 10 es → filled noneYet es ≡ placed 1 10 es
   unfolding noneYet empty
   filled-placed es r = fill 0 10 10 [] es refl (omega arith) r
+
+-- ---- entries made into something else, place by place
+
+module _ {A B : Type 0} (f : A → B) (g : Option A → Option B) (empty-stays : g none ≡ none) (each-made : (a : A) → g (some a) ≡ some (f a)) where
+  placed-made : (k n : ℕ) (es : List (ℕ × A)) → map g (placed k n es) ≡ placed k n (map (λ e. (e .0, f (e .1))) es)
+  unfolding placed
+  placed-made k zero es = refl
+  placed-made k (suc n) [] = ap₂ {C = Slots B} (λ x r. x ∷ r) empty-stays (placed-made (suc k) n [])
+  placed-made k (suc n) (e ∷ es) = go (eqb (e .0) k) (placed-made (suc k) n es) (placed-made (suc k) n (e ∷ es))
+    where
+      fs : List (ℕ × B)
+      fs = map (λ e. (e .0, f (e .1))) es
+
+      go : (t : Bool) → map g (placed (suc k) n es) ≡ placed (suc k) n fs → map g (placed (suc k) n (e ∷ es)) ≡ placed (suc k) n ((e .0, f (e .1)) ∷ fs)
+          → map g (if t then some (e .1) ∷ placed (suc k) n es else none ∷ placed (suc k) n (e ∷ es))
+          ≡ (if t then some (f (e .1)) ∷ placed (suc k) n fs else none ∷ placed (suc k) n ((e .0, f (e .1)) ∷ fs))
+      go true q r = ap₂ {C = Slots B} (λ x r. x ∷ r) (each-made (e .1)) q
+      go false q r = ap₂ {C = Slots B} (λ x r. x ∷ r) empty-stays r
+
+  made-rising : (before high : ℕ) (es : List (ℕ × A)) → Rising before high es → Rising before high (map (λ e. (e .0, f (e .1))) es)
+  made-rising before high [] r = tt
+  made-rising before high (e ∷ es) r = (r .0, (r .1 .0, made-rising (e .0) high es (r .1 .1)))
+
+  -- THE SECOND WALK OF THE PERIODICS: each entry made a periodic and put at its own index
+  pub filled-made : (es : List (ℕ × A)) → Rising 0 10 es → filled noneYet (map (λ e. (e .0, f (e .1))) es) ≡ map g (placed 1 10 es)
+  filled-made es r = filled-placed (map (λ e. (e .0, f (e .1))) es) (made-rising 0 10 es r) ∙ sym (placed-made 1 10 es)

@@ -6,4 +6,5 @@ pub mod Setups
 pub mod Calls
 pub mod Length
 pub mod Filling
+pub mod Entries
 pub mod Traces

@@ -1,16 +1,18 @@
 -- Places and their numbers: the taken places in order of number, and the places of numbers that rise. Assumes nothing.
-use Prim.Native.Nat.{ℕ, zero, suc, _+_, _≤_, _<_}
+use Prim.Native.Nat.{ℕ, zero, suc, _+_, _<_}
 use mathlib.Core.Path.{_≡_, refl, sym, ap, _∙_, subst}
 use mathlib.Core.Bool.{Bool, true, false}
-use mathlib.Core.List.{List, [], _∷_}
+use mathlib.Core.List.{List, [], _∷_, _++_, append-assoc}
 use mathlib.Core.Option.{none, some}
+use native.Mathlib.Nat.{add-zero}
 use native.Mathlib.Omega.{arith}
 use borrow.Author.Tests.{eq-eqb, ne-eqb, eqb-true, eqb-false}
 use lib.Dec.{eqb}
 use lib.ListN.{length}
 use Rattle.codec.specs.Plain.{if_then_else_}
 use Rattle.machine.specs.Filter.{Slots}
-use Rattle.machine.specs.Store.{numbered, placed}
+use Rattle.number.specs.Number.{bytesOf}
+use Rattle.machine.specs.Store.{numbered, eachBytes, placed}
 use Rattle.setups.specs.Good.{Holds, Every}
 use Rattle.setups.specs.Saved.{Rising}
 
@@ -88,3 +90,20 @@ module _ {A : Type 0} where
             → Every (Holds P) (if t then some (e .1) ∷ placed (suc k) n es else none ∷ placed (suc k) n (e ∷ es))
         go true f g = (h .0, f)
         go false f g = (tt, g)
+
+-- ---- more places behind, for code that writes one after the other
+
+pub numbered-more : {A : Type 0} (k : ℕ) (s t : Slots A) → numbered k (s ++ t) ≡ numbered k s ++ numbered (k + length s) t
+unfolding numbered
+numbered-more k [] t = ap (λ (j : ℕ). numbered j t) (sym (add-zero k))
+numbered-more k (none ∷ s) t = numbered-more (suc k) s t ∙ ap (λ (j : ℕ). numbered (suc k) s ++ numbered j t) (omega arith)
+numbered-more {A} k (some a ∷ s) t =
+    ap {B = List (ℕ × A)} (λ r. (k, a) ∷ r) (numbered-more (suc k) s t ∙ ap (λ (j : ℕ). numbered (suc k) s ++ numbered j t) (omega arith))
+
+pub each-more : {A : Type 0} (w : A → List ℕ) (es fs : List (ℕ × A)) → eachBytes w (es ++ fs) ≡ eachBytes w es ++ eachBytes w fs
+unfolding eachBytes
+each-more w [] fs = refl
+each-more w (e ∷ es) fs =
+    ap (λ (r : List ℕ). bytesOf (e .0) ++ (w (e .1) ++ r)) (each-more w es fs)
+    ∙ ap (λ (r : List ℕ). bytesOf (e .0) ++ r) (sym (append-assoc (w (e .1)) (eachBytes w es) (eachBytes w fs)))
+    ∙ sym (append-assoc (bytesOf (e .0)) (w (e .1) ++ eachBytes w es) (eachBytes w fs))

@@ -23,14 +23,17 @@ pub nothingSet : Happens
     ∷ connect 1 5 0x900 250000 ⇒ gives 2
     ∷ call 1 (saveSetup (room 8)) ⇒ says 0x00 8 first
     ∷ call 1 (saveSetup (room 10)) ⇒ says 0x00 8 (first ++ room 2)
+    ∷ call 1 lastError ⇒ gives 0
     ∷ call 1 (saveSetup (room 7)) ⇒ says 0x04 0 (room 7)
+    ∷ call 1 lastError ⇒ gives 0x04
     ∷ call 2 (saveSetup (room 9)) ⇒ says 0x00 9 second
     ∷ call 5 (saveSetup (room 9)) ⇒ says 0x02 0 (room 9)
     ∷ [])
 unfolding answered
 nothingSet = asTold refl
 
--- bad stores: a byte behind, a byte less, version 3, other flags, loopback 2, a rate that set refuses, a number not in shortest form, a count over 10
+-- bad stores: a byte behind, a byte less, version 3, other flags, loopback 2, a rate that set refuses, a number not in shortest form, a count over 10.
+-- 0x0A is the last code, and a good load leaves it
 pub badStores : Happens
     (call 1 (loadSetup first) ⇒ code 0x02
     ∷ connect 0 5 0 250000 ⇒ gives 1
@@ -45,7 +48,9 @@ pub badStores : Happens
     ∷ call 1 (loadSetup (0x02 ∷ 0x00 ∷ 0x0B ∷ 0x00 ∷ 0xA0 ∷ 0xC2 ∷ 0x1E ∷ 0x00 ∷ [])) ⇒ code 0x0A
     ∷ call 1 (loadSetup []) ⇒ code 0x0A
     ∷ call 1 (getParameter 1) ⇒ gives 250000
+    ∷ call 1 lastError ⇒ gives 0x0A
     ∷ call 1 (loadSetup first) ⇒ done
+    ∷ call 1 lastError ⇒ gives 0x0A
     ∷ call 1 (getParameter 1) ⇒ gives 500000
     ∷ call 1 (setParameter 1 125000) ⇒ done
     ∷ call 1 (loadSetup old) ⇒ done
