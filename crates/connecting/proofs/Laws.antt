@@ -18,7 +18,7 @@ use Rattle.layout.specs.Memory.{openPart, chanBack, region}
 use Rattle.layout.specs.Promise.{gives, Opened, regionGives, callOutcome}
 use Rattle.layout.proofs.Memory.{region-lawful}
 use Rattle.layout.proofs.Sizes.{region-size, closed-zeros, fresh-is}
-use Rattle.layout.proofs.Tables as tables
+use Rattle.machine.proofs.Tables as tables
 use Rattle.layout.proofs.Region.{moves}
 
 closed-none : codeOf ((isOpen closed, 0x14) ∷ []) ≡ 0

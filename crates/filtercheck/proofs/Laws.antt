@@ -13,7 +13,7 @@ use Rattle.machine.specs.Limits.{recordSize, mostData, mostPlaces}
 use Rattle.machine.specs.Message.{protocolOf, sizeOf, txFlagsOf, wideOf, takes}
 use Rattle.machine.specs.Filter.{free}
 use Rattle.machine.specs.Channel.{Open, shorter, filterCode}
-use Rattle.layout.proofs.Tables.{failed, yes, neither}
+use Rattle.machine.proofs.Tables.{failed, yes, neither}
 use Rattle.filtercheck.specs.Checked.{Checked}
 
 -- ---- a start's checks, those of one code together

@@ -14,7 +14,7 @@ use Rattle.machine.specs.Codes.{codeOf}
 use Rattle.machine.specs.Channel.{says, isFlags, connectCode, disconnect}
 use Rattle.layout.specs.Sizes.{flagsAt, rateAt, loopbackAt, numberSize}
 use Rattle.layout.specs.Promise.{gives}
-use Rattle.layout.proofs.Tables as tables
+use Rattle.machine.proofs.Tables as tables
 use Rattle.iso.specs.Limits.{isoProtocol, firstIso}
 use Rattle.iso.specs.Iso.{Iso, shut, ready, IsoOutcome, unlessIso, did, isReady, isoConnectCode, freshIso, onIsoConnect, onReady}
 use Rattle.iso_layout.specs.Sizes.{isoRegionSize}

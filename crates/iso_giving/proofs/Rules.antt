@@ -9,7 +9,7 @@ use lib.ListN.{length, getD, take, drop, length-drop}
 use lib.Dec.{eqb}
 use borrow.Author.Tests.{ne-eqb}
 use Rattle.codec.specs.Plain.{if_then_else_}
-use Rattle.layout.proofs.Tables.{by-test}
+use Rattle.machine.proofs.Tables.{by-test}
 use Rattle.machine.specs.Message.{Rec, bit, idOf}
 use Rattle.iso.specs.Limits.{idSize, isoData, inFirst, inNext}
 use Rattle.iso.specs.Iso.{Stage, opens, awaits, flies, sends, Transmission, Transfer, idle, refuses, receives, transmits, Talk, Owner, OpenIso, ready, Given, Chosen, gives, framed, numberAfter, firstFrame, nextFrame, flowFrame, answerOf, nextOf, segmentOf, carries, startOf, passing, giving, lowest, orElse}

@@ -27,7 +27,7 @@ use Rattle.iso_layout.specs.Sizes.{isoRegionSize}
 use Rattle.iso_layout.specs.Region.{messageCell, frameCell, ownedFits, heardCell, segmentsIn, flightCode, isoLastPart, transmitsIn, knowsOther, ownerFits, fliesIn, flightFits, isoRegion}
 use Rattle.layout.specs.Memory.{config}
 use Rattle.layout.specs.Reach.{CallBytes, Bytes}
-use Rattle.layout.proofs.Tables.{by-test, Failed, Telling, failed, by-code, own-code, yes}
+use Rattle.machine.proofs.Tables.{by-test, Failed, Telling, failed, by-code, own-code, yes}
 use Rattle.layout.proofs.Held.{config-make}
 use Rattle.layout.proofs.Calls.{data-bytes, Known, config-set, config-set-all}
 use Rattle.iso_layout.proofs.Sizes.{isoRegion-size}

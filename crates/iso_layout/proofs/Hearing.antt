@@ -22,7 +22,7 @@ use Rattle.machine.specs.Limits.{mostBytes}
 use Rattle.iso.specs.Limits.{mostHeard, idSize, isoData, leastMessage, mostPayload, inSingle, leastSegmented, inFirst, inNext, second, longestGap}
 use Rattle.iso.specs.Iso.{Reception, Stage, opens, awaits, flies, sends, Transmission, Transfer, idle, refuses, receives, transmits, Talk, turned, turnedSlot, news, numberAfter, gapOf, arriveIso, rxStart, arrived, Heard, becomes, ended, low, onSingle, onFirst, onNext, staged, onFlow, onConsecutive, onFlowOf, transmitting, listening, heard, airborne, laterStage, laterTransfer}
 use Rattle.iso_layout.specs.Region.{heardCell, stepOf7, isGap, segmentsIn}
-use Rattle.layout.proofs.Tables.{by-test, neither}
+use Rattle.machine.proofs.Tables.{by-test, neither}
 use Rattle.iso_layout.proofs.Held.{Fit, reading-make, telling-make, ReceptionOk, StageOk, TransmissionOk, TransferOk, TalkOk, id-small}
 use Rattle.iso_layout.proofs.Good.{PlaceOk, Less, gone, turns}
 

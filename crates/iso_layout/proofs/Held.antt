@@ -18,7 +18,7 @@ use Rattle.machine.specs.Message.{bit, takes, idOf, idLimit, widthFlag, Rec}
 use Rattle.iso.specs.Iso.{Reception, Stage, opens, awaits, flies, sends, Transmission, Transfer, idle, refuses, receives, transmits, Talk, padded, isoCodes}
 use Rattle.iso.specs.Limits.{idSize, isoData, leastMessage, mostPayload, leastSegmented, inFirst, inNext, second, longestGap}
 use Rattle.layout.specs.Record.{widthFits}
-use Rattle.layout.proofs.Tables.{by-test}
+use Rattle.machine.proofs.Tables.{by-test}
 use Rattle.iso_layout.specs.Region.{indication, extraIs, isoParts, isoFits, rec536, isoOutgoing, isoIncoming, heardCell, payloadParts, payloadFits, payload508, stepOf7, isGap, transferFits, transferPlain, transferCode, segmentsIn, talkFits, talkCell, isoLastPart}
 use Rattle.codec.proofs.Tests.{eq→eqb}
 use Rattle.codec.proofs.Lists.{of-member, zeros-bytes}

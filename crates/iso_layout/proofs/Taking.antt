@@ -20,7 +20,7 @@ use Rattle.machine.specs.Limits.{mostData, mostBytes}
 use Rattle.iso.specs.Limits.{mostTalks, mostMessages, idSize, isoData, leastMessage, mostPayload, longestSingle, leastSegmented, inFirst, inNext}
 use Rattle.iso.specs.Iso.{Stage, opens, awaits, flies, sends, Transmission, Transfer, idle, refuses, receives, transmits, Talk, Owner, nobody, message, transferAt, Flight, turned, turnedSlot, turnAt, newsAt, numberAfter, framed, singleFrame, unSingle, firstFrame, nextFrame, flowFrame, txDone, staged, transmitting, knows, airborne, airborneAt, Given, Chosen, passing, giving, lowest, gives, answerOf, nextOf, segmentOf, carries, startOf, starting, orElse, choice, wholeOf, sentStage, sentOf, doneOf, landedTalks, messagesDone, doneRecords}
 use Rattle.iso_layout.specs.Region.{rec536, isoOutgoing, messageCell, frameCell, heardCell, stepOf7, segmentsIn, ownerParts, ownedFits, flightCode, transmitsIn, knowsOther, ownerFits, fliesIn, ownedBy, flightFits}
-use Rattle.layout.proofs.Tables.{by-test, neither}
+use Rattle.machine.proofs.Tables.{by-test, neither}
 use Rattle.iso_layout.proofs.Held.{Fit, ToSend, sending-make, sending-sound, reading-make, telling-make, ReceptionOk, StageOk, TransmissionOk, TransferOk, TalkOk}
 use Rattle.iso_layout.proofs.Good.{PlaceOk, Linked}
 use Rattle.iso_layout.proofs.Hearing.{by-either, no-segment, framed-fit, step-more}

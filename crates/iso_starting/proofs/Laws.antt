@@ -21,7 +21,7 @@ use Rattle.machine.specs.Channel.{says, startFlow}
 use Rattle.machine.proofs.Slots.{free-more, free-here}
 use Rattle.message.proofs.Laws.{id-of-data}
 use Rattle.layout.specs.Promise.{gives}
-use Rattle.layout.proofs.Tables as tables
+use Rattle.machine.proofs.Tables as tables
 use Rattle.iso.specs.Limits.{idSize, mostTalks}
 use Rattle.iso.specs.Iso.{Talk, OpenIso, Iso, IsoOutcome, ready, idle, shorterIso, did, unlessIso, setTalks, talkCode, talkOf, onStartTalk, onReady}
 use Rattle.iso_layout.specs.Sizes.{talkSize, talksAt}

@@ -7,9 +7,10 @@ use mathlib.Core.Option.{Option, none, some}
 use mathlib.Core.List.{List}
 use Rattle.codec.specs.Plain.{if_then_else_}
 use Rattle.link.specs.Connection.{Connection, absent, Offer}
+use Rattle.machine.specs.Store.{readWhole}
 use Rattle.machine.specs.Message.{Rec}
-use Rattle.machine.specs.Channel.{Chan, closed, opened, Open, withConfig, withFilters, withSending, withReceiving, Call, disconnect, startFilter, startFlow, stopFilter, startPeriodic, stopPeriodic, write, read, takeNext, sent, clear, getParameter, setParameter, lastError, getList, setList, opensLink, sendsLink, receivesLink, endsLink, decides, onRaw, says, Outcome, unless, doneWith, onStartFilter, onStopFilter, reading, onRead, onWrite, onStartPeriodic, onStopPeriodic, Next, next, giving, chosen, mayGo, chosenOr, taking, onTake, sending, onSent, onClear, onGet, setTo, onSet, onGetList, onSetList, onLinkOpen, onLinkSend, onLinkReceive, onLinkEnd, onRawCall, onDecide, onOpen}
-use Rattle.machine.proofs.Refusals.{unless-case, if-case}
+use Rattle.machine.specs.Channel.{Chan, closed, opened, Open, withConfig, withFilters, withSending, withReceiving, Call, disconnect, startFilter, startFlow, stopFilter, startPeriodic, stopPeriodic, write, read, takeNext, sent, clear, getParameter, setParameter, lastError, getList, setList, opensLink, sendsLink, receivesLink, endsLink, decides, saves, loads, onRaw, says, Outcome, unless, doneWith, onStartFilter, onStopFilter, reading, onRead, onWrite, onStartPeriodic, onStopPeriodic, Next, next, giving, chosen, mayGo, chosenOr, taking, onTake, sending, onSent, onClear, onGet, setTo, onSet, onGetList, onSetList, onLinkOpen, onLinkSend, onLinkReceive, onLinkEnd, onRawCall, onDecide, storeIn, onSave, loaded, onLoad, onOpen}
+use Rattle.machine.proofs.Refusals.{unless-case, if-case, load-case}
 
 -- the connection of a channel
 abbrev pub linkOf : Chan → Connection
@@ -53,7 +54,7 @@ module _ (o : Open) where
   sent-leaves now (some r) = done _ refl
 
   pub link-left : (rates : List ℕ) (now : ℕ) (x : Call) → Leaves (o .link) (onOpen rates now o x)
-  unfolding onOpen onRawCall onDecide onStartFilter onStopFilter onStartPeriodic onStopPeriodic onWrite onRead reading onTake onSent onClear onGet onSet setTo onGetList onSetList onLinkOpen onLinkSend onLinkReceive onLinkEnd withFilters withSending withReceiving withConfig doneWith says
+  unfolding onOpen onRawCall onDecide onSave onLoad loaded onStartFilter onStopFilter onStartPeriodic onStopPeriodic onWrite onRead reading onTake onSent onClear onGet onSet setTo onGetList onSetList onLinkOpen onLinkSend onLinkReceive onLinkEnd withFilters withSending withReceiving withConfig doneWith says
   link-left rates now disconnect = done _ refl
   link-left rates now (startFilter t m p) = refused _ _ _ _ (done _ refl) (same _ refl)
   link-left rates now (startFlow t m p f) = refused _ _ _ _ (done _ refl) (same _ refl)
@@ -75,3 +76,5 @@ module _ (o : Open) where
   link-left rates now (onRaw (receivesLink b)) = refused _ _ _ _ (done _ refl) (same _ refl)
   link-left rates now (onRaw endsLink) = refused _ _ _ _ (done _ refl) (same _ refl)
   link-left rates now (onRaw (decides w i)) = refused _ _ _ _ (done _ refl) (same _ refl)
+  link-left rates now (onRaw (saves b)) = refused _ _ _ _ (done _ refl) (same _ refl)
+  link-left rates now (onRaw (loads s)) = load-case (Leaves (o .link)) o (readWhole (storeIn rates) s) (same _ refl) (λ t. same _ refl)

@@ -17,7 +17,7 @@ use Rattle.machine.specs.Step.{Event, call}
 use Rattle.layout.specs.Promise.{Result, gives, answerOf}
 use Rattle.layout.specs.Reach.{AllBytes}
 use Rattle.layout.proofs.Calls.{Known, three-known, two-known}
-use Rattle.layout.proofs.Tables.{by-test}
+use Rattle.machine.proofs.Tables.{by-test}
 use Rattle.whole.specs.Device.{channels, powerOn}
 use Rattle.whole.specs.Demands.{pairCodes, refusal, Apart, Names, SameToEach}
 use Rattle.whole.proofs.Isolation.{calls-apart, different-apart}

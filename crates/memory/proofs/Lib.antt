@@ -9,3 +9,4 @@ pub mod Unique
 pub mod Lists
 pub mod Demands
 pub mod Limits
+pub mod Saved

@@ -15,7 +15,7 @@ use Rattle.machine.specs.Step.{Event, chanStep}
 use Rattle.layout.specs.Memory.{region}
 use Rattle.layout.specs.Reach.{Bytes, AllBytes}
 use Rattle.layout.proofs.Good.{fine-closed}
-use Rattle.layout.proofs.Tables.{by-test}
+use Rattle.machine.proofs.Tables.{by-test}
 use Rattle.layout.proofs.Calls.{Known, three-known, two-known, fine-step}
 use Rattle.layout.proofs.Reach.{clock-ok}
 use Rattle.iso.specs.Step.{isoStep}

@@ -18,7 +18,7 @@ use Rattle.machine.specs.Step.{Event, connect, call, frame, advance, close, len
 use Rattle.machine.proofs.Refusals.{not-in, not-refused}
 use Rattle.layout.specs.Sizes.{lastAt}
 use Rattle.layout.specs.Promise.{Result, gives, answered, answerOf}
-use Rattle.layout.proofs.Tables.{by-test}
+use Rattle.machine.proofs.Tables.{by-test}
 use Rattle.iso.specs.Iso.{isoNotes}
 use Rattle.iso_layout.specs.Sizes.{isoLastAt}
 use Rattle.whole.specs.Device.{Device, Any, raw, iso, chanAt, isoAt, anyAt, connected, step}

@@ -16,7 +16,7 @@ use Rattle.machine.specs.Codes.{codeOf}
 use Rattle.machine.specs.Limits.{canProtocol, recordSize, sizeIn, dataIn, leastData, mostData}
 use Rattle.machine.specs.Message.{takes, idOf, idLimit, widthFlag, protocolOf, sizeOf, wideOf, dataOf, messageCode, clean}
 use Rattle.layout.specs.Record.{rec36}
-use Rattle.layout.proofs.Tables.{failed, yes}
+use Rattle.machine.proofs.Tables.{failed, yes}
 use Rattle.records.specs.Cell.{numbers, padded}
 use Rattle.records.proofs.Laws.{two-parts, mid-long, numbers-long, record-is}
 use Rattle.message.specs.Check.{codeWithin, cleanBytes}

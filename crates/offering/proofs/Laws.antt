@@ -31,7 +31,7 @@ use Rattle.layout.proofs.Memory.{shown-is, out-lawful}
 use Rattle.layout.proofs.Sizes.{out-size}
 use Rattle.layout.proofs.Calls.{telegram-ok}
 use Rattle.layout.proofs.Held.{periodics-rows}
-use Rattle.layout.proofs.Tables.{by-test}
+use Rattle.machine.proofs.Tables.{by-test}
 use Rattle.layout.proofs.Good.{Fine, fl, Good, good-ok, put-link}
 use Rattle.layout.proofs.Region.{openOf, kept, opened-again, open-again}
 use Rattle.layout.proofs.Link.{link-make, narrow-takes, MayGo, link-offers, link-bytes, link-turned}

@@ -21,7 +21,7 @@ use Rattle.machine.specs.Limits.{mostPlaces, recordSize, leastInterval, mostInt
 use Rattle.layout.specs.Sizes.{periodicsAt, periodicsSize, flagsAt, numberSize}
 use Rattle.layout.specs.Memory.{periodics}
 use Rattle.layout.specs.Promise.{Opened, gives, callOutcome}
-use Rattle.layout.proofs.Tables.{Telling, failed, more-tests, no-more-tests, own-code, yes}
+use Rattle.machine.proofs.Tables.{Telling, failed, more-tests, no-more-tests, own-code, yes}
 use Rattle.layout.proofs.Places.{fl}
 use Rattle.layout.proofs.Region.{openOf, moves, stays, word-of, flags-part}
 use Rattle.stores.proofs.Periodics.{placesOf, partOf, withPlaces, lent, lent-held, lent-back, ten-held, heldAt, empty-at, taken-at}

@@ -14,12 +14,13 @@ use Rattle.machine.specs.Codes.{codeOf}
 use Rattle.machine.specs.Message.{Rec, idBytes, takes, received, widthFlag}
 use Rattle.machine.specs.Filter.{hits, passes}
 use Rattle.link.specs.Connection.{Offer, passing}
-use Rattle.machine.specs.Channel.{Chan, closed, opened, Open, Call, RawCall, opensLink, sendsLink, receivesLink, endsLink, decides, disconnect, startFilter, startFlow, stopFilter, startPeriodic, stopPeriodic, write, read, takeNext, sent, clear, getParameter, setParameter, lastError, getList, setList, onRaw, Answer, says, Outcome, lent, withConfig, withFilters, withSending, withReceiving, withLink, withLast, unless, doneWith, frameCode, onFrame, heardBy, arrive, reading, onRead, onStartFilter, onStopFilter, onStartPeriodic, onStopPeriodic, onWrite, onAdvance, Next, next, giving, chosen, chosenOr, mayGo, taking, onTake, landed, sending, onSent, onClear, onGet, onSet, setTo, onGetList, onSetList, onRawCall, onLinkOpen, onLinkSend, onLinkReceive, onLinkEnd, onDecide, connectCode, isOpen, onConnect, fresh, onOpen, onCall, isFlags, notes, noted, notedInUse}
+use Rattle.machine.specs.Channel.{Chan, closed, opened, Open, Call, RawCall, opensLink, sendsLink, receivesLink, endsLink, decides, saves, loads, disconnect, startFilter, startFlow, stopFilter, startPeriodic, stopPeriodic, write, read, takeNext, sent, clear, getParameter, setParameter, lastError, getList, setList, onRaw, Answer, says, Outcome, lent, withConfig, withFilters, withSending, withReceiving, withLink, withLast, unless, doneWith, frameCode, onFrame, heardBy, arrive, reading, onRead, onStartFilter, onStopFilter, onStartPeriodic, onStopPeriodic, onWrite, onAdvance, Next, next, giving, chosen, chosenOr, mayGo, taking, onTake, landed, sending, onSent, onClear, onGet, onSet, setTo, onGetList, onSetList, onRawCall, onLinkOpen, onLinkSend, onLinkReceive, onLinkEnd, onDecide, storeIn, onSave, loaded, onLoad, connectCode, isOpen, onConnect, fresh, onOpen, onCall, isFlags, notes, noted, notedInUse}
 use Rattle.machine.specs.Channel as chan
 use Rattle.machine.specs.Step.{Event, connect, call, frame, advance, close, chanStep}
 use Rattle.machine.specs.Step as raw-step
 use Rattle.machine.specs.Demands.{queueOf}
-use Rattle.machine.proofs.Refusals.{unless-case, if-case}
+use Rattle.machine.proofs.Refusals.{unless-case, if-case, load-case}
+use Rattle.machine.specs.Store.{readWhole}
 use Rattle.whole.specs.Device.{Device, Any, raw, iso, powerOn, chanAt, anyAt, anyStep, touches, lineOf, speaker, ownAnswer, step, run, after, answer, answerBy}
 use Rattle.whole.specs.Demands.{EightChannels}
 use Rattle.whole.proofs.Dispatch.{chan-moves, chan-stays, channels-kept, call-carried, any-raw}
@@ -122,13 +123,15 @@ module _ (o : Open) where
       from none = or-stays (mayGo o)
 
   -- a call that takes the number of a raw channel
-  stays-raw : (x : RawCall) → Stays (onRawCall o x)
-  unfolding onRawCall onLinkOpen onLinkSend onLinkReceive onLinkEnd onDecide heldIn queueOf withLink doneWith
-  stays-raw (opensLink a) = stays-unless _ _ _ refl
-  stays-raw (sendsLink m) = stays-unless _ _ _ refl
-  stays-raw (receivesLink b) = stays-unless _ _ _ refl
-  stays-raw endsLink = stays-unless _ _ _ refl
-  stays-raw (decides w i) = stays-unless _ _ _ refl
+  stays-raw : (rates : List ℕ) (x : RawCall) → Stays (onRawCall rates o x)
+  unfolding onRawCall onLinkOpen onLinkSend onLinkReceive onLinkEnd onDecide onSave onLoad loaded heldIn queueOf withLink doneWith
+  stays-raw rates (opensLink a) = stays-unless _ _ _ refl
+  stays-raw rates (sendsLink m) = stays-unless _ _ _ refl
+  stays-raw rates (receivesLink b) = stays-unless _ _ _ refl
+  stays-raw rates endsLink = stays-unless _ _ _ refl
+  stays-raw rates (decides w i) = stays-unless _ _ _ refl
+  stays-raw rates (saves b) = stays-unless _ _ _ refl
+  stays-raw rates (loads s) = load-case Stays o (readWhole (storeIn rates) s) refl (λ t. refl)
 
   -- a call that leaves the queue as long counts nothing
   another-even : (y : Outcome) → Stays y → CallEven (opened o) another y
@@ -208,7 +211,7 @@ call-even rates now (opened o) (setParameter p v) = another-even o _ refl
 call-even rates now (opened o) lastError = another-even o _ refl
 call-even rates now (opened o) (getList ps) = another-even o _ (stays-unless o _ _ _ refl)
 call-even rates now (opened o) (setList ps) = another-even o _ (stays-unless o _ _ _ refl)
-call-even rates now (opened o) (onRaw x) = another-even o _ (stays-raw o x)
+call-even rates now (opened o) (onRaw x) = another-even o _ (stays-raw o rates x)
 
 -- what is noted is no record
 notes-held : (k : ℕ) (c : Chan) → heldIn (notes k c) ≡ heldIn c

@@ -23,7 +23,7 @@ use Rattle.machine.specs.Filter.{Slots, anySlot, free, taken}
 use Rattle.machine.specs.Channel.{Config}
 use Rattle.layout.specs.Sizes.{flagsAt, configSize}
 use Rattle.layout.specs.Memory.{config}
-use Rattle.layout.proofs.Tables as tables
+use Rattle.machine.proofs.Tables as tables
 use Rattle.message.proofs.Laws.{id-of-data}
 use Rattle.iso.specs.Limits.{isoProtocol, idSize, mostTalks, isoRecordSize}
 use Rattle.iso.specs.Iso.{Talk, OpenIso, Iso, ready, shorterIso, knows, talkCode}

@@ -4,7 +4,7 @@ use Prim.Native.Nat.{ℕ, _+_}
 use mathlib.Core.Path.{refl}
 use mathlib.Core.List.{List, [], _∷_, _++_}
 use Rattle.link.specs.Connection.{Asked}
-use Rattle.machine.specs.Channel.{says, Call, disconnect, stopFilter, read, takeNext, sent, lastError, linkOpen, linkSend, linkReceive, linkEnd, decide}
+use Rattle.machine.specs.Channel.{says, Call, disconnect, stopFilter, read, takeNext, sent, lastError, linkOpen, linkSend, linkReceive, linkEnd, decide, saveSetup, loadSetup}
 use Rattle.machine.specs.Step.{connect, call, frame, advance, close}
 use Rattle.whole.proofs.Traces.Words.{_⇒_, Story, answered, Happens, asTold, done, gives, code, room, message, got, everything, message6, told6, talk}
 
@@ -40,6 +40,8 @@ pub numbers : Happens
     ∷ call 5 (linkReceive (room 512)) ⇒ says 0x02 0 (room 512)
     ∷ call 5 linkEnd ⇒ code 0x02
     ∷ call 5 (decide 0 1) ⇒ code 0x02
+    ∷ call 5 (saveSetup (room 12)) ⇒ says 0x02 0 (room 12)
+    ∷ call 5 (loadSetup (0x01 ∷ 0x00 ∷ 0x00 ∷ 0xA0 ∷ 0xC2 ∷ 0x1E ∷ 0x00 ∷ [])) ⇒ code 0x02
     ∷ call 5 lastError ⇒ gives 0x16
     ∷ call 8 opens ⇒ code 0x02
     ∷ call 8 lastError ⇒ gives 0
@@ -50,6 +52,7 @@ pub numbers : Happens
     ∷ call 9 (linkReceive (room 3)) ⇒ says 0x02 0 (room 3)
     ∷ call 257 linkEnd ⇒ code 0x02
     ∷ call 257 (decide 0 1) ⇒ code 0x02
+    ∷ call 257 (saveSetup (room 12)) ⇒ says 0x02 0 (room 12)
     ∷ call 4 opens ⇒ done
     ∷ call 4 opens ⇒ code 0x14
     ∷ call 4 lastError ⇒ gives 0x14
