@@ -1,12 +1,12 @@
 -- What the answers for the parts of a store say of them: numbers, clean records, and any part by the place after it. Assumes nothing.
 use Prim.Native.Nat.{ℕ, _+_, _-_, _≤_, _<_}
-use mathlib.Core.Path.{_≡_, refl, sym, ap, _∙_, subst}
+use mathlib.Core.Path.{_≡_, refl, sym, ap, _∙_}
 use mathlib.Core.Bool.{Bool, true, false, _&&_}
 use mathlib.Core.List.{List, [], _∷_}
 use mathlib.Core.Option.{Option, none, some, Option·map, bind}
 use native.Mathlib.Omega.{arith}
 use borrow.Author.Tests.{le-leb, lt-leb, leb-true}
-use lib.Dec.{T, eqb, leb}
+use lib.Dec.{eqb, leb}
 use lib.ListN.{length, take, drop, length-drop}
 use lib.Seq.{take-all, length-take-le}
 use Rattle.codec.specs.Plain.{if_then_else_}
@@ -23,7 +23,7 @@ use Rattle.machine.specs.Limits.{recordSize, sizeIn, dataIn}
 use Rattle.machine.specs.Message.{shown, sizeOf, wideOf, dataOf, clean}
 use Rattle.machine.specs.Store.{sameBytes, isClean, cleanIn}
 use Rattle.derived.specs.Derived as derived
-use Rattle.setups.proofs.Reading.{same, no-value, bytes-there, only-there}
+use Rattle.setups.proofs.Reading.{same, no-value, only-there}
 use Rattle.setups.proofs.Records.{same-sound, shown-size}
 use Rattle.store_records.specs.declared.Place.{Place}
 use Rattle.store_records.specs.declared.Place.the-variants as place

@@ -1,17 +1,13 @@
 -- `store_records::periodic_end` meets its contract: message, interval, then the tests of a start. Assumes nothing.
 use mathlib.Core.Option.{some}
 use mathlib.Core.Path.{_≡_, sym, _∙_}
-use Prim.Native.Nat.{_≤_}
 use native.Mathlib.Omega.{arith}
 use borrow.Author.Needs.{needs}
 use borrow.Author.Tests.{not-true, not-false}
 use denote.Ref.{now}
-use lib.ListN.{length, drop, length-drop}
-use lib.Seq.{length-take-le}
 use Rattle.number.specs.Reads.{number}
-use Rattle.machine.specs.Limits.{recordSize}
 use Rattle.machine.specs.Store.{cleanIn}
-use Rattle.store_records.proofs.Parts.{place-bad, number-good, number-bad, part, CleanAt, clean-good, clean-long}
+use Rattle.store_records.proofs.Parts.{place-bad, number-good, number-bad, CleanAt, clean-good, clean-long}
 use Rattle.store_records.proofs.Entries.{no-message, no-interval, bad-interval, periodic-refused, periodic-taken}
 use Rattle.store_records.proofs.periodic_end.Statement.{statement}
 use Rattle.store_records.proofs.periodic_end.Tie as tie
