@@ -15,7 +15,7 @@ use Rattle.machine.specs.Filter.{Filter, Slots}
 use Rattle.machine.specs.Store.{Setup, slotsIn, nothingAfter, readWhole}
 use Rattle.machine.specs.Channel.{filterIn, periodicIn, bodyIn, versionIn, storeIn}
 use Rattle.setups.specs.Saved.{takesStore}
-use Rattle.setups.proofs.Reading.{no-value, split, done-there, only-there, whole-there}
+use Rattle.setups.proofs.Reading.{no-value, Split, split, done-there, only-there, Entire, whole-there}
 use Rattle.store_records.specs.Places.{afterOf}
 use Rattle.store_check.specs.Walk.{headIn, flagsIn, configIn, Laid, Taken}
 use Rattle.store_check.proofs.Slots.{from-0, after-done, slots-at}
@@ -211,7 +211,7 @@ module _ (rates s : List ℕ) (flags : ℕ) (t : Setup) where
       let ps = slots-at (periodicIn flags) s (x .place) (y .place) (y .what) (y .first) in
       let r = only-there (λ r. member r rates) number (z .what) s (y .place) (z .place) (z .first) in
       let l = only-there (λ n. leb n 1) number (u .what) s (z .place) (u .place) (u .first) in
-      subst (Laid rates s flags) (d .0)
+      subst (Laid rates s flags) {x = made} (d .0)
       (record {
         body = body;
         periodics-at = x .place;
@@ -232,11 +232,15 @@ module _ (rates s : List ℕ) (flags : ℕ) (t : Setup) where
 
   -- WHERE THE PARTS STAND of a store that reads as a set-up of these flags
   pub laid : readWhole (storeIn rates) s ≡ some t → t .flags ≡ flags → Laid rates s flags t
-  laid e own =
-      let w = whole-there (storeIn rates) s t e in
-      let x = split headIn (bodyIn rates) s 0 t (w .next) (sym (head-first rates s) ∙ w .read) in
-      let f : x .what ≡ flags = sym (body-flags rates s (x .what) (x .place) t (w .next) (x .rest)) ∙ own in
-      body-laid (x .place) (w .next) (w .ends) (x .first ∙ ap (λ (n : ℕ). some (n, x .place)) f) (ap (λ (n : ℕ). bodyIn rates n s (x .place)) (sym f) ∙ x .rest)
+  laid e own = go (whole-there (storeIn rates) s t e)
+    where
+      by : (next : ℕ) → next ≡ length s → Split headIn (bodyIn rates) s 0 t next → Laid rates s flags t
+      by next ends x =
+          let f : x .what ≡ flags = sym (body-flags rates s (x .what) (x .place) t next (x .rest)) ∙ own in
+          body-laid (x .place) next ends (x .first ∙ ap (λ (n : ℕ). some (n, x .place)) f) (ap (λ (n : ℕ). bodyIn rates n s (x .place)) (sym f) ∙ x .rest)
+
+      go : Entire (storeIn rates) s t → Laid rates s flags t
+      go w = by (w .next) (w .ends) (split headIn (bodyIn rates) s 0 t (w .next) (sym (head-first rates s) ∙ w .read))
 
 -- what the check's yes says
 pub taken : (rates s : List ℕ) (flags : ℕ) → takesStore flags (readWhole (storeIn rates) s) ≡ true → Taken rates s flags
