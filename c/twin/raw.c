@@ -534,7 +534,7 @@ static uint32_t save(const channel_t *c, uint8_t *b, size_t b_len, uint32_t *len
 static uint32_t load(channel_t *c, const uint8_t *store, size_t n) {
     store_setup s;
     if (!store_read(&s, store, n) || s.flags != get32(c->flags)) return 0x0A;
-    clear(c, 3), clear(c, 4);
+    clear(c, 3);
     put32(c->rate, s.rate), c->loopback = (uint8_t)s.loopback;
     for (int i = 0; i < FILTERS; i++) {
         c->type[i] = (uint8_t)s.filter[i].type, c->wide[i] = (uint8_t)s.filter[i].wide, c->size[i] = (uint8_t)s.filter[i].size;
