@@ -352,7 +352,8 @@ static const uint8_t third[120] = {
     0x01, 0x01, /* a periodic: number 1 */
     5, 0, 0, 0, 0, 0, 0, 0, 0, 0, 0, 0, 0, 0, 0, 0, 7, 0, 0, 0, 7, 0, 0, 0, 0x00, 0x00, 0x07, 0xDF, 0x02, 0x01, 0x0D, 0, 0, 0, 0, 0,
     0x64, 0xA0, 0xC2, 0x1E, 0x01}; /* every 100 ms; 500,000; loopback 1 */
-enum { FILTER_COUNT = 2, FILTER_NUMBER = 3, FILTER_TYPE = 4, PERIODIC_COUNT = 77, PERIODIC_NUMBER = 78, INTERVAL = 115, RATE_AT = 116, LOOPBACK_AT = 119 };
+/* where its numbers lie */
+enum { FILTER_COUNT = 2, FILTER_NUMBER, FILTER_TYPE, PERIODIC_COUNT = 77, PERIODIC_NUMBER, INTERVAL = 115, RATE_AT, LOOPBACK_AT = 119 };
 
 /* channel 1 as in the third example */
 static void third_set_up(void) {
@@ -419,7 +420,8 @@ static void each_byte(uint32_t channel, const uint8_t *store, size_t n, int all)
     static uint8_t changed[ROOM];
     memcpy(changed, store, n);
     for (size_t i = 0; i < n; i++) {
-        const uint8_t some[8] = {0, 1, 2, (uint8_t)(store[i] + 1), (uint8_t)(store[i] - 1), store[i] ^ 0x80, (uint8_t)(1u << below(8)), (uint8_t)any()};
+        const uint8_t is = store[i];
+        const uint8_t some[8] = {0, 1, 2, (uint8_t)(is + 1), (uint8_t)(is - 1), is ^ 0x80, is ^ (uint8_t)(1u << below(8)), (uint8_t)any()};
         for (int k = 0; k < (all ? 256 : 8); k++) {
             changed[i] = all ? (uint8_t)k : some[k];
             if (changed[i] != store[i]) tries(channel, changed, n);
