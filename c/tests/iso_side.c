@@ -44,7 +44,7 @@ static const side core = {
     core_valid, trawl_power_on, trawl_connect, trawl_disconnect, trawl_close, trawl_advance, trawl_frame, trawl_start_flow_filter,
     trawl_stop_filter, trawl_start_periodic, trawl_stop_periodic, trawl_write, trawl_read, trawl_take, trawl_sent, trawl_clear, trawl_get,
     trawl_set, core_set_list, core_get_list, trawl_last_error, trawl_link_open, trawl_link_send, trawl_link_receive, trawl_link_end,
-    trawl_decide, NULL, NULL};
+    trawl_decide, trawl_save, trawl_load};
 
 const side *const sides[] = {&core, &twin, NULL};
 #endif
