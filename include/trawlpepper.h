@@ -46,12 +46,13 @@ extern "C" {
 /* The version of this header and of the archive built from the same sources. The first number changes when a program or a kept memory that was
  * good may be so no more, the second when something is added, the third with everything else. TRAWL_VERSION is for comparing. */
 #define TRAWL_VERSION_MAJOR 7
-#define TRAWL_VERSION_MINOR 0
+#define TRAWL_VERSION_MINOR 1
 #define TRAWL_VERSION_PATCH 0
 #define TRAWL_VERSION (TRAWL_VERSION_MAJOR * 10000 + TRAWL_VERSION_MINOR * 100 + TRAWL_VERSION_PATCH)
 
 /* The size of the device memory; of a message record of channels 1 to 4 and of one of channels 5 to 8, and the most payload bytes of the latter; of
- * a telegram record, and the room for the bytes of a telegram; the longest message of a TP2.0 connection; the most pairs of a list. */
+ * a telegram record, and the room for the bytes of a telegram; the longest message of a TP2.0 connection; the most pairs of a list; the longest
+ * store. */
 #define TRAWL_MEMORY 48668u
 #define TRAWL_RECORD 36u
 #define TRAWL_ISO_RECORD 536u
@@ -60,6 +61,7 @@ extern "C" {
 #define TRAWL_TELEGRAM_ROOM 8u
 #define TRAWL_LINK_MESSAGE 512u
 #define TRAWL_PAIRS 16u
+#define TRAWL_STORE 1149u
 
 /* Every name of J2534-1 stands here with the prefix TRAWL_. Without it the same names are defined at the end of this file, unless you define
  * TRAWL_NO_J2534_NAMES before you include it: so the header lives beside a j2534.h of yours, whichever comes first. The numbers are J2534-1's
@@ -68,14 +70,14 @@ extern "C" {
 /* Codes, by J2534-1's names. */
 #define TRAWL_STATUS_NOERROR 0x00u
 #define TRAWL_ERR_NOT_SUPPORTED 0x01u         /* unknown configuration parameter; a periodic on channels 5 to 8 */
-#define TRAWL_ERR_INVALID_CHANNEL_ID 0x02u    /* channel number not 1 to 8 (TP2.0, decide: 1 to 4), or not open */
+#define TRAWL_ERR_INVALID_CHANNEL_ID 0x02u    /* channel number not 1 to 8 (TP2.0, decide, save, load: 1 to 4), or not open */
 #define TRAWL_ERR_INVALID_PROTOCOL_ID 0x03u   /* connect: protocol is not 5 or 6 */
-#define TRAWL_ERR_NULL_PARAMETER 0x04u        /* lent buffer too short (TP2.0: under 512); a list of more than 16 pairs */
+#define TRAWL_ERR_NULL_PARAMETER 0x04u        /* lent buffer too short (TP2.0: under 512; save: for the store); over 16 pairs */
 #define TRAWL_ERR_INVALID_IOCTL_VALUE 0x05u   /* bad value for a known parameter */
 #define TRAWL_ERR_INVALID_FLAGS 0x06u         /* connect: a flag other than 0x100, 0x800 */
 #define TRAWL_ERR_FAILED 0x07u                /* sent with nothing in flight; no TP2.0 connection stands */
 #define TRAWL_ERR_TIMEOUT 0x09u               /* read: some records, fewer than asked (a result) */
-#define TRAWL_ERR_INVALID_MSG 0x0Au           /* bad message, frame or telegram; TP2.0: bad fields, no narrow frames */
+#define TRAWL_ERR_INVALID_MSG 0x0Au           /* bad message, frame, telegram or store; TP2.0: bad fields, no narrow frames */
 #define TRAWL_ERR_INVALID_TIME_INTERVAL 0x0Bu /* interval not 5 to 65,535 ms; advance over 1,000,000 us */
 #define TRAWL_ERR_EXCEEDED_LIMIT 0x0Cu        /* ten filters or ten periodics exist; on channels 5 to 8 two filters */
 #define TRAWL_ERR_INVALID_MSG_ID 0x0Du        /* no periodic of that number on this channel */
@@ -507,13 +509,44 @@ uint32_t trawl_get_list(uint8_t *memory, size_t memory_length, uint32_t channel,
  * TRAWL_DROPPED where none is, and TRAWL_MUST_SEE where it takes the data: then there are data that are let in and data that are not. Block filters
  * that only together keep all out count, and so does the frame without data. A width that the connection doesn't take is TRAWL_DROPPED.
  *   - The answer is about the filters as they are now, and nothing else: full queues, loopback and the lost mark play no part. It holds until a
- *   filter is started, stopped or cleared, or the channel is disconnected.
+ *   filter is started, stopped or cleared, a set-up is loaded, or the channel is disconnected.
  *   - DROPPED SPEAKS OF THE RAW FILTERS ALONE. While the ISO 15765 channel of the line is open, or the raw channel has a TP2.0 connection (which
  *   hears narrow frames), they may need a frame that the filters drop: call trawl_frame all the same. Else a dropped frame need not be brought.
  *   One that passes is brought as ever: this call queues nothing.
  *   - A refusal becomes the channel's last code; else nothing but the answer is written.
  * Codes: 0x1A; 0x02 channel not 1 to 4, or not open; 0x0A wide over 1, identifier over 0x7FF or (wide) 0x1FFFFFFF. */
 uint32_t trawl_decide(uint8_t *memory, size_t memory_length, uint32_t channel, uint32_t wide, uint32_t identifier, uint32_t *answer);
+
+/* A store is the set-up of a raw channel as bytes, to be kept outside the box: its flags, filters, periodics, rate and loopback. Numbers stand there
+ * in groups of seven bits, lowest first, each byte but the last with 0x80 added, in as few bytes as they need; records have their 36 bytes:
+ *
+ *   2; the connection flags; how many filters, and of each its number, its type, its mask and its pattern as records; how many periodics, and of each
+ *   its number, its record, its interval in milliseconds; the rate; loopback
+ *
+ * Filters and periodics stand in the order of their numbers, 1 to 10, and gaps are kept. Records are clean: protocol 5, RxStatus 0, TxFlags 0 or
+ * 0x100, timestamp 0, the size, the size again, the bytes, zeros. Nothing follows. That is version 2, the one that is written. Version 1, from
+ * before, begins with 1 and has no flags: they were 0. What was queued or written, the frame in flight, the last code, a TP2.0 connection and where
+ * the periodics were in their intervals are not in it. */
+
+/* Saves the set-up of a raw channel, 1 to 4: writes its store to the start of a buffer; the bytes behind it stay. Gives its length. A buffer of
+ * TRAWL_STORE bytes always suffices; it is the length of this store that counts. The channel doesn't change. Two channels with the same set-up have
+ * the same store, byte for byte. A channel that still runs at 125000 is saved with that rate, and the store can't be loaded.
+ *   if (trawl_save(box, sizeof box, channel, store, sizeof store, &length) == TRAWL_STATUS_NOERROR) fwrite(store, 1, length, file);
+ * Codes: 0x1A; 0x02 channel not 1 to 4, or not open; 0x04 the store is longer than the buffer, which stays as it was. */
+uint32_t trawl_save(uint8_t *memory, size_t memory_length, uint32_t channel, uint8_t *buffer, size_t buffer_length, uint32_t *length);
+
+/* Loads a store, all of what is lent, on a raw channel, 1 to 4, whose flags are those of the store, as whole numbers: 0x800 and 0x900 take the same
+ * frames, and still differ. Its filters, periodics, rate and loopback are then those of the store and no others; or, refused, all of them stay.
+ *   - Filters and periodics have the numbers that they had when they were saved. Periodics start anew: each is pending at once, and then at each
+ *   whole multiple of its interval from now.
+ *   - What is queued for reading, the lost mark, written records, the frame in flight, the last code and a TP2.0 connection stay.
+ *   - A store of version 2, loaded and saved again, is the same byte for byte. One of version 1 loads on flags 0 alone.
+ *   - A store is bad where its form is another: filters or periodics not in order, a number of theirs over 10, a number in more bytes than it needs,
+ *   a record that isn't clean, a byte more or less, a first number other than 1 and 2. So it is where it holds what trawl_start_filter,
+ *   trawl_start_periodic or trawl_set would refuse on the channel: a type, size, width, identifier, interval, rate (125000 too) or loopback.
+ *   code = trawl_load(box, sizeof box, channel, store, length);
+ * Codes: 0x1A; 0x02 channel not 1 to 4, or not open; 0x0A a bad store, or other flags. */
+uint32_t trawl_load(uint8_t *memory, size_t memory_length, uint32_t channel, const uint8_t *store, size_t store_length);
 
 /* Opens a TP2.0 connection on channels 1 to 4: the set-up telegram waits at take. own is the box's identifier, 0x200 to 0x2EF; destination the
  * module's address, 0x00 to 0xEF; rx_id the identifier that the module is to send with, 0 to 0x7FF; application 0x01, 0x10, 0x20 or 0x21; block_size

@@ -19,6 +19,8 @@ enum { TELEGRAMS = 74, MODULE = 0x300 };                            /* of a mess
 
 static uint8_t buffer[64 * 36], message[36], text[ISO_RECORD], data8[8] = {3, 0x7F, 0x10, 0x78, 0, 0, 0, 0};
 static const uint8_t go_on[3] = {0x30, 0, 0};
+static uint8_t store[TRAWL_STORE]; /* the set-up that is loaded */
+static uint32_t stored;
 static volatile uint32_t sink;
 
 static void keep(uint32_t v) { sink = v; }
@@ -260,6 +262,21 @@ static void deciding(const uint8_t *idle, const uint8_t *typical) {
     printf("  %-28s %8.1f %8.1f %8.2f   worst less valid\n", "decide, worst, by itself", a - look_a, b - look_b, (a - look_a) / (b - look_b));
 }
 
+/* the set-up of a raw channel as a store, and the same loaded on each of the four */
+static void set_ups(const char *save, const char *load, const uint8_t *base) {
+    static uint8_t m[MEMORY];
+    memcpy(m, base, MEMORY);
+    if (twin_save(m, MEMORY, 1, store, sizeof store, &stored) != 0) exit(1);
+    row(save, core_save, twin_run_save, base, 0);
+    row(load, core_load, twin_run_load, base, 0);
+}
+
+static void saving(const uint8_t *typical, const uint8_t *full) {
+    printf("\nsaved set-ups: ns a call       core     twin    ratio   (validating)\n");
+    set_ups("save, typical", "load, typical", typical);
+    set_ups("save, full", "load, full", full);
+}
+
 /* ten filters on each channel: what the look at their maps costs, and a start or stop, which makes them anew */
 static void ten_filters(const char *name, const char *frame, const char *start) {
     static uint8_t base[MEMORY];
@@ -429,6 +446,7 @@ int main(int argc, char **argv) {
     eight(idle);
     tp20(idle);
     deciding(idle, typical);
+    saving(typical, full);
     mapped();
     growth();
     printf("\nreplayed, inner calls: ns an event  core   twin    ratio\n");

@@ -103,6 +103,17 @@ static unsigned SIDE(decide)(uint8_t *m) {
     return 16;
 }
 
+static unsigned SIDE(save)(uint8_t *m) {
+    uint32_t v;
+    for (uint32_t i = 0; i < 16; i++) keep(CALL(save)(m, MEMORY, 1 + (i & 3), buffer, sizeof buffer, &v) + v);
+    return 16;
+}
+
+static unsigned SIDE(load)(uint8_t *m) {
+    for (uint32_t i = 0; i < 16; i++) keep(CALL(load)(m, MEMORY, 1 + (i & 3), store, stored));
+    return 16;
+}
+
 static unsigned SIDE(clear)(uint8_t *m) {
     for (uint32_t i = 0; i < 16; i++) keep(CALL(clear)(m, MEMORY, 1 + (i & 3), 1 + i / 4));
     return 16;

@@ -106,7 +106,8 @@ static reply both(event *e, uint64_t turn) {
         if (memcmp(mine.first.room, e->first.room, sizeof mine.first.room)) fail("a refusal changed a buffer", e, turn);
         if (a.value != 0) fail("a refusal gave a number", e, turn);
     }
-    if (e->kind == DECIDE && a.code == 0x00 && memcmp(before, core, TRAWL_MEMORY)) fail("deciding changed the memory", e, turn);
+    if ((e->kind == DECIDE || e->kind == SAVE) && a.code == 0x00 && memcmp(before, core, TRAWL_MEMORY))
+        fail("deciding or saving changed the memory", e, turn);
     if (is_list(e)) one_by_one(before, e, &mine.first, a, turn);
     b = on_twin(twin, TRAWL_MEMORY, e);
     if (a.code != b.code) fail("code", e, turn);
@@ -253,7 +254,7 @@ static void busy(void) {
     power_on();
     for (uint32_t i = 0; i < 6000; i++) {
         random_event(&e, 2);
-        if (e.kind == CLOSE || e.kind == DISCONNECT || (e.kind == CLEAR && chance(80))) continue;
+        if (e.kind == CLOSE || e.kind == DISCONNECT || ((e.kind == CLEAR || e.kind == LOAD) && chance(80))) continue;
         if ((e.kind == READ || e.kind == SENT || e.kind == STOP_FILTER || e.kind == STOP_PERIODIC) && chance(70)) continue;
         both(&e, i);
     }
@@ -429,7 +430,7 @@ static void short_buffers(void) {
     connections(1);
     for (int kind = START_FILTER; kind <= KINDS; kind++)
         for (uint32_t n = 0; n <= 2 * TRAWL_ISO_RECORD + 1; n += n < 80 || n % TRAWL_ISO_RECORD > TRAWL_ISO_RECORD - 30 ? 1 : 23) {
-            if (kind > TAKE && kind != START_FLOW && kind != LINK_SEND && kind != LINK_RECEIVE) continue;
+            if (kind > TAKE && kind != START_FLOW && kind != LINK_SEND && kind != LINK_RECEIVE && kind < SAVE) continue;
             for (uint32_t channel = 0; channel <= CHANNELS + 1; channel++) {
                 connect_event(&e, 0, 0, 0, 0);
                 e.kind = kind, e.a = channel, e.b = kind == START_FILTER ? 1 : kind == START_FLOW ? 3 : kind == START_PERIODIC ? 5 : n % 4;

@@ -101,6 +101,8 @@ int main(void) {
     NONE(trawl_link_receive(NULL, 0, 1, NULL, 0, &v), v);
     NONE_ALONE(trawl_link_end(NULL, 0, 1));
     NONE(trawl_decide(NULL, 0, 1, 0, 0, &v), v);
+    NONE(trawl_save(NULL, 0, 1, NULL, 0, &v), v);
+    NONE_ALONE(trawl_load(NULL, 0, 1, NULL, 0));
 
     must(trawl_power_on(box, sizeof box) == 0 && trawl_connect(box, sizeof box, 0, 5, 0, 500000, &v) == 0, "connect");
     trawl_record_make(record, 0, 0, NULL, 0);
@@ -117,6 +119,10 @@ int main(void) {
     STAYS(0x00, 77, trawl_get_list(box, sizeof box, 1, NULL, 0), v);
     STAYS(0x02, 77, trawl_set_list(box, sizeof box, 2, NULL, 0), v);
     STAYS(0x02, 77, trawl_get_list(box, sizeof box, 2, NULL, 0), v);
+    NOTED(0x04, 0, trawl_save(box, sizeof box, 1, NULL, 0, &v), v);
+    NOTED(0x0A, 77, trawl_load(box, sizeof box, 1, NULL, 0), v); /* no bytes are no store */
+    STAYS(0x02, 0, trawl_save(box, sizeof box, 2, NULL, 0, &v), v);
+    STAYS(0x02, 77, trawl_load(box, sizeof box, 2, NULL, 0), v);
     STAYS(0x13, 77, trawl_frame(box, sizeof box, 4, 0, 0, NULL, 0), v);
     STAYS(0x00, 77, trawl_frame(box, sizeof box, 0, 0, 0x7E8, NULL, 0), v); /* no filter lets nothing in */
     conversations();

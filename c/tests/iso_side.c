@@ -11,6 +11,16 @@ uint64_t seed = 1;
 
 typedef char memories_are_alike[TRAWL_MEMORY == TWIN_MEMORY && sizeof(struct trawl_pair) == sizeof(struct twin_pair) ? 1 : -1];
 
+static const side twin = {
+    "the twin", TWIN_MEMORY, RAW_PART, ISO_REGION, RAW_REGION, RAW_LAST, LINK_AT,
+    twin_valid, twin_power_on, twin_connect, twin_disconnect, twin_close, twin_advance, twin_frame, twin_start_flow_filter, twin_stop_filter,
+    twin_start_periodic, twin_stop_periodic, twin_write, twin_read, twin_take, twin_sent, twin_clear, twin_get, twin_set, twin_set_list,
+    twin_get_list, twin_last_error, twin_link_open, twin_link_send, twin_link_receive, twin_link_end, twin_decide,
+    twin_save, twin_load};
+
+#ifdef TWIN_ALONE
+const side *const sides[] = {&twin, &twin, NULL};
+#else
 /* the core's calls whose types are not the twin's: a verdict, lists */
 static int core_valid(const uint8_t *m, size_t len) { return trawl_valid(m, len) != 0; }
 
@@ -29,20 +39,15 @@ static uint32_t core_get_list(uint8_t *m, size_t len, uint32_t channel, struct t
     return code;
 }
 
-static const side twin = {
-    "the twin", TWIN_MEMORY, RAW_PART, ISO_REGION, RAW_REGION, RAW_LAST, LINK_AT,
-    twin_valid, twin_power_on, twin_connect, twin_disconnect, twin_close, twin_advance, twin_frame, twin_start_flow_filter, twin_stop_filter,
-    twin_start_periodic, twin_stop_periodic, twin_write, twin_read, twin_take, twin_sent, twin_clear, twin_get, twin_set, twin_set_list,
-    twin_get_list, twin_last_error, twin_link_open, twin_link_send, twin_link_receive, twin_link_end, twin_decide};
-
 static const side core = {
     "the core", TRAWL_MEMORY, RAW_PART, ISO_REGION, RAW_REGION, RAW_LAST, LINK_AT,
     core_valid, trawl_power_on, trawl_connect, trawl_disconnect, trawl_close, trawl_advance, trawl_frame, trawl_start_flow_filter,
     trawl_stop_filter, trawl_start_periodic, trawl_stop_periodic, trawl_write, trawl_read, trawl_take, trawl_sent, trawl_clear, trawl_get,
     trawl_set, core_set_list, core_get_list, trawl_last_error, trawl_link_open, trawl_link_send, trawl_link_receive, trawl_link_end,
-    trawl_decide};
+    trawl_decide, trawl_save, trawl_load};
 
 const side *const sides[] = {&core, &twin, NULL};
+#endif
 
 uint32_t word(const uint8_t *p) { return (uint32_t)p[0] | (uint32_t)p[1] << 8 | (uint32_t)p[2] << 16 | (uint32_t)p[3] << 24; }
 

@@ -43,9 +43,13 @@ typedef struct {
     uint32_t (*link_receive)(uint8_t *m, size_t len, uint32_t channel, uint8_t *b, size_t b_len, uint32_t *length);
     uint32_t (*link_end)(uint8_t *m, size_t len, uint32_t channel);
     uint32_t (*decide)(uint8_t *m, size_t len, uint32_t channel, uint32_t wide, uint32_t id, uint32_t *answer);
+    uint32_t (*save)(uint8_t *m, size_t len, uint32_t channel, uint8_t *b, size_t b_len, uint32_t *length);
+    uint32_t (*load)(uint8_t *m, size_t len, uint32_t channel, const uint8_t *store, size_t store_len);
 } side;
 
-extern const side *const sides[]; /* the core, the twin, then NULL; their memories lie alike */
+/* The core, the twin, then NULL; their memories lie alike. With TWIN_ALONE the twin is in the core's place: so a test can be tried out before the
+ * core has its calls. */
+extern const side *const sides[];
 
 /* ---- numbers and records in bytes ---- */
 

@@ -13,7 +13,7 @@ static unsigned long reached[5]; /* how often an event met each state there */
 
 /* ---- where things lie in a raw region, and in its connection ---- */
 
-enum { FLAGS = 1, FLYING = RAW_PERIODICS + 1027, FLIGHT = FLYING + 1 };
+enum { STORE = 1149, FLAGS = 1, FLYING = RAW_PERIODICS + 1027, FLIGHT = FLYING + 1 };
 enum { STATE, OWN, RX = 5, DESTINATION = 9, APPLICATION, SIZE, T1, T3, TX = 14, TRIES = 18, TRIAL, TRIAL_LEFT, LEAVING = 24, LEAVING_LEFT, BLOCK = 29,
        PACE, WIRE, WIRE_LEFT, ANSWERS = 36, TESTS, UNANSWERED, TEST_LEFT, HOLD = 43, SN = 47, OUT, OUT_LEFT, TAKEN = 53, REPEATS, AGAIN, REST_N,
        REST = 60, EXPECTED = 572, ACKNOWLEDGES, COMPLETE, IN_N, IN = 579, PART = 1091 };
@@ -114,12 +114,22 @@ static void some_filter(event *e) {
     e->b = 1 + chance(20);
 }
 
+/* the set-up of that channel as it is, or of another one; a byte of it may be off */
+static void some_set_up(event *e, uint32_t damage) {
+    uint8_t store[STORE];
+    uint32_t n = 0;
+    on->save(mine, on->memory, chance(60) ? e->a : 1 + below(4), store, sizeof store, &n);
+    lend(&e->first, n);
+    memcpy(bytes(&e->first), store, n);
+    if (n && chance(damage)) bytes(&e->first)[below(n)] = (uint8_t)any();
+}
+
 static void some_event(event *e, uint32_t damage) {
     static const uint32_t often[] = {ADVANCE, ADVANCE, ADVANCE, FRAME, FRAME, FRAME, FRAME, FRAME, FRAME, FRAME, FRAME, TAKE, TAKE, TAKE, TAKE, SENT,
                                      SENT, SENT, SENT, LINK_OPEN, LINK_OPEN, LINK_OPEN, LINK_SEND, LINK_SEND, LINK_RECEIVE, LINK_RECEIVE, LINK_END,
                                      WRITE, READ, START_PERIODIC, STOP_PERIODIC, START_FILTER, STOP_FILTER, CLEAR, SET, LAST_ERROR, CONNECT,
-                                     DISCONNECT};
-    static const uint32_t seldom[] = {LINK_END, START_PERIODIC, START_FILTER, CLEAR, SET, CONNECT, DISCONNECT, WRITE};
+                                     DISCONNECT, SAVE, LOAD};
+    static const uint32_t seldom[] = {LINK_END, START_PERIODIC, START_FILTER, CLEAR, SET, CONNECT, DISCONNECT, WRITE, SAVE};
     uint32_t kind = one_of(often, sizeof often / sizeof *often);
     for (size_t i = 0; i < sizeof seldom / sizeof *seldom; i++)
         if (kind == seldom[i] && chance(kind == LINK_END || kind == DISCONNECT ? 95 : 75)) kind = FRAME;
@@ -141,6 +151,8 @@ static void some_event(event *e, uint32_t damage) {
     case LINK_OPEN: some_opening(e, damage); break;
     case LINK_SEND: lend(&e->first, chance(damage) ? ONE_OF(0, 513, 514, 5000) : ONE_OF(1, 6, 7, 8, 14, 15, 100, 511, 512, 1 + below(512))); break;
     case LINK_RECEIVE: lend(&e->first, some_length(MESSAGE, damage / 2)); break;
+    case SAVE: lend(&e->first, chance(80) ? STORE : below(200)); break;
+    case LOAD: some_set_up(e, damage); break;
     default: break;
     }
 }

@@ -241,7 +241,7 @@ static void refused_ones(void) {
 
 /* ---- a bit that is turned over ---- */
 
-enum { CALLS = 25 };
+enum { CALLS = 27 };
 static uint8_t lent[2 * RECORD], lent_before[2 * RECORD];
 
 /* call number n of a side on a memory, in good order but for the memory: its code; a number that comes back is v */
@@ -274,7 +274,9 @@ static uint32_t call(int k, int n, uint32_t *v) {
     case 21: return s->link_send(MEMORY, 1, b, 8);
     case 22: return s->link_receive(MEMORY, 1, b, RECORD, v);
     case 23: return s->link_end(MEMORY, 1);
-    default: return s->decide(MEMORY, 1, 0, 0x7E8, v);
+    case 24: return s->decide(MEMORY, 1, 0, 0x7E8, v);
+    case 25: return s->save(MEMORY, 1, b, RECORD, v);
+    default: return s->load(MEMORY, 1, b, RECORD);
     }
 }
 

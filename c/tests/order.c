@@ -458,6 +458,34 @@ static void deciding(void) {
     must(number == TRAWL_PASSES, "a filter for all wide frames");
 }
 
+/* channel, then the buffer's length, or the store as a whole */
+static void saving(void) {
+    static uint8_t out[TRAWL_STORE];
+    size_t n;
+    GIVES(0x1A, trawl_save(BROKEN, NONE, out, 0, &number));
+    GIVES(0x1A, trawl_save(SHORT, NONE, out, 0, &number));
+    GIVES(0x02, trawl_save(BOX, NONE, out, 0, &number));
+    GIVES(0x02, trawl_save(BOX, 0, out, 0, &number));
+    GIVES(0x02, trawl_save(BOX, CLOSED, out, 0, &number));
+    GIVES(0x02, trawl_save(BOX, TALKS, out, 0, &number)); /* open, but no raw channel */
+    NOTES(NARROW, 0x04, trawl_save(BOX, NARROW, out, 0, &number));
+    NOTES(NARROW, 0x00, trawl_save(BOX, NARROW, R(out), &number));
+    n = number;
+    NOTES(NARROW, 0x04, trawl_save(BOX, NARROW, out, n - 1, &number));
+    NOTES(NARROW, 0x00, trawl_save(BOX, NARROW, out, n, &number));
+    must(number == n && n <= TRAWL_STORE, "the length of a store");
+    GIVES(0x1A, trawl_load(BROKEN, NONE, out, n - 1));
+    GIVES(0x1A, trawl_load(SHORT, NONE, out, n - 1));
+    GIVES(0x02, trawl_load(BOX, NONE, out, n - 1));
+    GIVES(0x02, trawl_load(BOX, 0, out, n - 1));
+    GIVES(0x02, trawl_load(BOX, CLOSED, out, n - 1));
+    GIVES(0x02, trawl_load(BOX, TALKS, out, n));
+    NOTES(NARROW, 0x0A, trawl_load(BOX, NARROW, out, n - 1));
+    NOTES(WIDE, 0x0A, trawl_load(BOX, WIDE, out, n)); /* other flags */
+    NOTES(BOTH, 0x0A, trawl_load(BOX, BOTH, out, n));
+    NOTES(NARROW, 0x00, trawl_load(BOX, NARROW, out, n));
+}
+
 /* refused before any pair is done, or at the first: nothing but the last code changes, and the lists stay */
 static void lists(void) {
     static const struct trawl_pair seventeen[17] = {{2, 9}, {1, 9}, {3, 1}}, value[3] = {{1, 9}, {2, 9}, {3, 1}}, old[1] = {{1, 125000}};
@@ -530,6 +558,7 @@ int main(void) {
     opening();
     connection();
     deciding();
+    saving();
     settings();
     printf("codes in the header's order: %lu looks\n", held);
     return 0;

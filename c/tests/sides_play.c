@@ -101,6 +101,8 @@ static reply play(const side *s, uint8_t *m, event *e) {
     case LINK_SEND: r.code = s->link_send(m, len, e->a, p, e->first.n); break;
     case LINK_RECEIVE: r.code = s->link_receive(m, len, e->a, p, e->first.n, &r.value); break;
     case LINK_END: r.code = s->link_end(m, len, e->a); break;
+    case SAVE: r.code = s->save(m, len, e->a, p, e->first.n, &r.value); break;
+    case LOAD: r.code = s->load(m, len, e->a, p, e->first.n); break;
     default: r.code = s->last_error(m, len, e->a, &r.value); break;
     }
     return r;

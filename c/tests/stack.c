@@ -21,7 +21,8 @@ static uint8_t messages[9 * TRAWL_ISO_RECORD], telegram[TRAWL_TELEGRAM], eight[8
 static const uint8_t recording[] = {1, 0, 5, 0, 0xA0, 0xC2, 0x1E, 4, 1, 5, 0, 0, 1, 2, 1, 2, 11, 1, 1, 12, 1, 13, 1, 14, 1, 1, 15, 1, 1,
                                     1, 0, 6, 0, 0xA0, 0xC2, 0x1E, 11, 5, 9, 12, 5, 13, 5, 14, 5, 4, 16, 1, 3}; /* the last event is cut short */
 static struct trawl_pair pairs[TRAWL_PAIRS];
-static uint32_t number;
+static uint8_t store[TRAWL_STORE];
+static uint32_t number, stored;
 static size_t length, at;
 
 #define BOX box, sizeof box
@@ -73,6 +74,8 @@ static void do_link_data(void) { trawl_frame(BOX, 2, 0, 0x300, (const uint8_t *)
 static void do_link_break(void) { trawl_frame(BOX, 0, 0, 0x300, (const uint8_t *)"\xA4", 1); }
 static void do_link_reply(void) { trawl_frame(BOX, 1, 0, 0x201, (const uint8_t *)"\0\xD0\0\3\x40\7\1", 7); }
 static void do_decide(void) { trawl_decide(BOX, 1, 0, 0x7E8, &number); }
+static void do_save(void) { trawl_save(BOX, 1, out, sizeof out, &number); }
+static void do_load(void) { trawl_load(BOX, 1, store, stored); } /* of ten filters and ten periodics */
 static void do_read_telegram(void) { trawl_read_telegram(0, 0, (const uint8_t *)"\xA0\x0F\x8A\xFF\x32\xFF", 6, telegram, sizeof telegram); }
 static void do_write_telegram(void) { trawl_write_telegram(telegram, sizeof telegram, eight, 8, &number); }
 static void do_time(void) { number = trawl_time(0x8A); }
@@ -93,6 +96,7 @@ static const struct {
              {"link_open", do_link_open}, {"link_send", do_link_send}, {"link_receive", do_link_receive}, {"link_end", do_link_end},
              {"take, TP2.0", do_link_take}, {"sent, TP2.0", do_link_sent}, {"frame, acknowledge", do_link_acknowledge},
              {"frame, data", do_link_data}, {"frame, break", do_link_break}, {"frame, reply", do_link_reply}, {"decide", do_decide},
+             {"save", do_save}, {"load", do_load},
              {"read_telegram", do_read_telegram}, {"write_telegram", do_write_telegram}, {"time", do_time}, {"replay", do_replay}};
 
 /* ---- a painted stack ---- */
@@ -190,6 +194,7 @@ static void boxes(void) {
         for (v = 0; v < 31; v++) trawl_frame(full, sizeof full, i, 0, 0x7E8, data, 8);
         talks(full, i);
     }
+    trawl_save(full, sizeof full, 1, store, sizeof store, &stored);
     memcpy(ready, full, sizeof ready);
     for (i = 0; i < 3; i++) trawl_sent(ready, sizeof ready, i + 1), trawl_sent(ready, sizeof ready, i + 5);
     memcpy(broken, full, sizeof broken);

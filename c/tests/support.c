@@ -120,7 +120,7 @@ const char *name_of(int kind) {
     static const char *const names[] = {"-", "connect", "disconnect", "close", "advance", "frame", "start filter", "stop filter",
                                         "start periodic", "stop periodic", "write", "read", "take", "sent", "clear", "get", "set",
                                         "set list", "get list", "last error", "start flow filter", "link open", "link send", "link receive", "link end",
-                                        "decide"};
+                                        "decide", "save", "load"};
     return names[kind];
 }
 
@@ -193,11 +193,53 @@ static void some_telegram(event *e) {
     memcpy(bytes(&e->first), b, n);
 }
 
+static uint8_t *put_seven(uint8_t *p, uint32_t v) {
+    for (; v >= 0x80; v >>= 7) *p++ = (uint8_t)(v | 0x80);
+    *p++ = (uint8_t)v;
+    return p;
+}
+
+/* a clean record of some size from the least on, in a width that these flags take */
+static uint8_t *put_clean(uint8_t *p, int wide, uint32_t least) {
+    uint32_t size = least + below(13 - least), id = some_id(wide ? 0x100 : 0);
+    memset(p, 0, TRAWL_RECORD);
+    word(p, 5), word(p + 8, wide ? 0x100 : 0), word(p + 16, size), word(p + 20, size);
+    for (uint32_t i = 0; i < size; i++) p[24 + i] = (uint8_t)(i < 4 ? id >> (24 - 8 * i) : below(3));
+    return p + TRAWL_RECORD;
+}
+
+/* a set-up for channels of some flags: few filters and periodics, with gaps; a byte of it may be off, or it is longer or shorter */
+static void some_store(event *e, int damage) {
+    uint8_t room[TRAWL_STORE], *p = room;
+    uint32_t flags = ONE_OF(0, 0, 0x100, 0x800, 0x900), version = flags == 0 && chance(30) ? 1 : 2, n, k, i;
+    p = put_seven(p, version);
+    if (version == 2) p = put_seven(p, flags);
+    p = put_seven(p, n = below(4));
+    for (i = 0, k = 0; i < n; i++) {
+        int wide = flags & 0x800 ? chance(50) : (flags & 0x100) != 0;
+        p = put_seven(put_seven(p, k += 1 + below(3)), 1 + below(2));
+        put_clean(p, wide, 1), memcpy(p + TRAWL_RECORD, p, TRAWL_RECORD);
+        for (uint32_t b = 24; b < 24 + 4 && p[16] > 4; b++) p[b] = (uint8_t)ONE_OF(0, 7, 0xFF), p[TRAWL_RECORD + b] &= p[b];
+        p += 2 * TRAWL_RECORD;
+    }
+    p = put_seven(p, n = below(4));
+    for (i = 0, k = 0; i < n; i++) {
+        p = put_seven(p, k += 1 + below(3));
+        p = put_seven(put_clean(p, flags & 0x800 ? chance(50) : (flags & 0x100) != 0, 4), ONE_OF(5, 5, 6, 10, 100, 1000, 65535));
+    }
+    p = put_seven(put_seven(p, ONE_OF(250000, 500000)), below(2));
+    n = (uint32_t)(p - room);
+    if (chance((uint32_t)damage)) room[below(n)] = (uint8_t)(chance(50) ? below(14) : any());
+    lend(&e->first, chance((uint32_t)damage / 2) ? below(n + 2) : n);
+    memcpy(bytes(&e->first), room, e->first.n < n ? e->first.n : n);
+}
+
 void random_event(event *e, int damage) {
     static const int often[] = {CONNECT,    DISCONNECT,     ADVANCE, ADVANCE, FRAME, FRAME, FRAME, FRAME, FRAME, FRAME, FRAME, FRAME, START_FILTER,
                                 STOP_FILTER, START_PERIODIC, STOP_PERIODIC, WRITE, WRITE, READ,  READ,  TAKE,  TAKE,  SENT,  SENT,  CLEAR,
                                 GET,        SET,            SET,     START_FILTER, START_PERIODIC, CONNECT, LAST_ERROR, SET_LIST,
-                                GET_LIST,   LINK_OPEN,      LINK_OPEN, LINK_SEND, LINK_SEND, LINK_RECEIVE, LINK_RECEIVE, LINK_END, DECIDE, DECIDE};
+                                GET_LIST,   LINK_OPEN,      LINK_OPEN, LINK_SEND, LINK_SEND, LINK_RECEIVE, LINK_RECEIVE, LINK_END, DECIDE, DECIDE,
+                                SAVE,       LOAD,           LOAD};
     uint32_t channel = off(chance(60) ? 1 + below(4) : 5 + below(4), damage / 4), flags, n, size = (uint32_t)record_of(channel);
     connect_event(e, 0, 0, 0, 0);
     e->kind = chance(1) ? (chance(10) ? CLOSE : DISCONNECT) : often[below(sizeof often / sizeof *often)];
@@ -270,6 +312,12 @@ void random_event(event *e, int damage) {
         flags = some_flags();
         e->b = off((flags & 0x100) != 0, damage / 2), e->c = off(some_id(flags), damage / 2);
         break;
+    case SAVE:
+        lend(&e->first, chance(80) ? some_length(TRAWL_STORE, damage / 2) : below(300));
+        break;
+    case LOAD:
+        some_store(e, damage);
+        break;
     case LINK_OPEN:
         some_opening(e, damage);
         break;
@@ -312,7 +360,7 @@ void opening_event(event *e, uint32_t i) {
 static uint32_t stale(int kind) {
     switch (kind) {
     case CONNECT: case START_FILTER: case START_FLOW: case START_PERIODIC: case WRITE: case READ: case GET: case LAST_ERROR:
-    case LINK_RECEIVE: case DECIDE: return 0xBADC0DEu;
+    case LINK_RECEIVE: case DECIDE: case SAVE: return 0xBADC0DEu;
     default: return 0;
     }
 }
@@ -360,6 +408,8 @@ static uint32_t stale(int kind) {
         case LINK_RECEIVE: r.code = CALL(link_receive)(m, length, e->a, p, pn, &r.value); break;                                          \
         case LINK_END: r.code = CALL(link_end)(m, length, e->a); break;                                                                   \
         case DECIDE: r.code = CALL(decide)(m, length, e->a, e->b, e->c, &r.value); break;                                                 \
+        case SAVE: r.code = CALL(save)(m, length, e->a, p, pn, &r.value); break;                                                          \
+        case LOAD: r.code = CALL(load)(m, length, e->a, p, pn); break;                                                                    \
         default: break;                                                                                                                   \
         }                                                                                                                                 \
         return r;                                                                                                                         \

@@ -22,14 +22,15 @@ int guarded(const lent *b);   /* the guards are as they were */
 /* ---- events ---- */
 
 enum { CONNECT = 1, DISCONNECT, CLOSE, ADVANCE, FRAME, START_FILTER, STOP_FILTER, START_PERIODIC, STOP_PERIODIC, WRITE, READ, TAKE, SENT,
-       CLEAR, GET, SET, SET_LIST, GET_LIST, LAST_ERROR, START_FLOW, LINK_OPEN, LINK_SEND, LINK_RECEIVE, LINK_END, DECIDE, KINDS = DECIDE };
+       CLEAR, GET, SET, SET_LIST, GET_LIST, LAST_ERROR, START_FLOW, LINK_OPEN, LINK_SEND, LINK_RECEIVE, LINK_END, DECIDE, SAVE, LOAD,
+       KINDS = LOAD };
 /* up to SET by their numbers in recordings, which hold no others, but START_FLOW as START_FILTER of channels 5 to 8 */
 
 typedef struct {
     int kind;
     uint32_t a, b, c, d;       /* the event's numbers, in the scope's order; a is the line or the channel */
     uint32_t more[4];          /* those of LINK_OPEN behind them */
-    lent first, second, third; /* what it lends: mask, message, records, data, buffer or a list; pattern; flow */
+    lent first, second, third; /* what it lends: mask, message, records, data, buffer, a list or a store; pattern; flow */
 } event;
 
 typedef struct {
@@ -45,7 +46,7 @@ void put_pair(lent *b, size_t i, uint32_t parameter, uint32_t value);
 const char *name_of(int kind);
 void random_event(event *e, int damage); /* damage: percent of numbers, records and lengths that are off */
 void connect_event(event *e, uint32_t line, uint32_t protocol, uint32_t flags, uint32_t rate);
-int raw_only(int kind);        /* a call of a TP2.0 connection, or the decision: it names channels 1 to 4 */
+int raw_only(int kind);        /* a call of a TP2.0 connection, the decision, a save or a load: it names channels 1 to 4 */
 void link_event(event *e, uint32_t channel, uint32_t block_size, uint32_t t1, uint32_t t3); /* an opening: own 0x200, destination 1, RX-ID 0x300 */
 
 /* events 0 to 15 of a sequence: channels 1 to 4 with a connection that stands */

@@ -6,6 +6,7 @@
 #include "common.h"
 #include "early.h"
 #include "link.h"
+#include "store.h"
 
 enum { FILTERS = 10, PERIODICS = 10, WRITTEN = 16, QUEUE = 32, PAIRS = 16, RECORD = 36, ROW = 12 };
 enum { PASS = 1, BLOCK = 2, MAPPED = 4, HIGHS = 8, BAND = RAW_MAP / HIGHS }; /* types of filters; the longest filter of a map; a map's bands */
@@ -505,6 +506,50 @@ static uint32_t get_list(const channel_t *c, struct twin_pair *pairs, size_t cou
     return code;
 }
 
+/* ---- set-ups: what a store says of a channel ---- */
+
+static uint32_t save(const channel_t *c, uint8_t *b, size_t b_len, uint32_t *length) {
+    store_setup s;
+    uint8_t whole[STORE_MOST];
+    size_t n;
+    memset(&s, 0, sizeof s);
+    s.flags = get32(c->flags), s.rate = get32(c->rate), s.loopback = c->loopback;
+    for (int i = 0; i < FILTERS; i++) {
+        s.filter[i].type = c->type[i], s.filter[i].wide = c->wide[i], s.filter[i].size = c->size[i];
+        memcpy(s.filter[i].mask, c->mask[i], ROW);
+        memcpy(s.filter[i].pattern, c->pattern[i], ROW);
+    }
+    for (int i = 0; i < PERIODICS; i++) {
+        s.periodic[i].interval = get32(c->interval[i]);
+        memcpy(s.periodic[i].record, &c->periodic[i], RECORD);
+    }
+    n = store_write(whole, &s);
+    if (b_len < n) return 0x04;
+    memcpy(b, whole, n);
+    *length = (uint32_t)n;
+    return 0;
+}
+
+/* all of it or nothing; what is queued, written, in flight and the connection stay. Periodics start anew: pending, their time at 0 */
+static uint32_t load(channel_t *c, const uint8_t *store, size_t n) {
+    store_setup s;
+    if (!store_read(&s, store, n) || s.flags != get32(c->flags)) return 0x0A;
+    clear(c, 3);
+    put32(c->rate, s.rate), c->loopback = (uint8_t)s.loopback;
+    for (int i = 0; i < FILTERS; i++) {
+        c->type[i] = (uint8_t)s.filter[i].type, c->wide[i] = (uint8_t)s.filter[i].wide, c->size[i] = (uint8_t)s.filter[i].size;
+        memcpy(c->mask[i], s.filter[i].mask, ROW);
+        memcpy(c->pattern[i], s.filter[i].pattern, ROW);
+    }
+    for (int i = 0; i < PERIODICS; i++) {
+        if (!s.periodic[i].interval) continue;
+        put32(c->interval[i], s.periodic[i].interval), c->pending[i] = 1;
+        memcpy(&c->periodic[i], s.periodic[i].record, RECORD);
+    }
+    maps(c);
+    return 0;
+}
+
 /* ---- the same as calls on a channel: 0x02 first, and the code is kept ---- */
 
 uint32_t raw_start_filter(uint8_t *m, uint32_t channel, uint32_t type, const uint8_t *mask, size_t mask_len, const uint8_t *pattern,
@@ -596,6 +641,19 @@ uint32_t raw_decide(uint8_t *m, uint32_t channel, uint32_t wide, uint32_t id, ui
     uint32_t code = find(m, channel, &c);
     *answer = 0;
     return code ? code : noted(c, decide(c, wide, id, answer));
+}
+
+uint32_t raw_save(uint8_t *m, uint32_t channel, uint8_t *b, size_t b_len, uint32_t *length) {
+    channel_t *c;
+    uint32_t code = find(m, channel, &c);
+    *length = 0;
+    return code ? code : noted(c, save(c, b, b_len, length));
+}
+
+uint32_t raw_load(uint8_t *m, uint32_t channel, const uint8_t *store, size_t n) {
+    channel_t *c;
+    uint32_t code = find(m, channel, &c);
+    return code ? code : noted(c, load(c, store, n));
 }
 
 /* ---- TP2.0 connections: the channel must take narrow frames, before anything else of the call ---- */

@@ -30,6 +30,8 @@ uint32_t raw_set(uint8_t *m, uint32_t channel, uint32_t parameter, uint32_t valu
 uint32_t raw_set_list(uint8_t *m, uint32_t channel, const struct twin_pair *pairs, size_t count);
 uint32_t raw_get_list(uint8_t *m, uint32_t channel, struct twin_pair *pairs, size_t count);
 uint32_t raw_decide(uint8_t *m, uint32_t channel, uint32_t wide, uint32_t id, uint32_t *answer);
+uint32_t raw_save(uint8_t *m, uint32_t channel, uint8_t *b, size_t b_len, uint32_t *length);
+uint32_t raw_load(uint8_t *m, uint32_t channel, const uint8_t *store, size_t n);
 uint32_t raw_link_open(uint8_t *m, uint32_t channel, uint32_t own, uint32_t destination, uint32_t rx_id, uint32_t application, uint32_t block_size,
                        uint32_t t1, uint32_t t3);
 uint32_t raw_link_send(uint8_t *m, uint32_t channel, const uint8_t *message, size_t message_len);

@@ -154,6 +154,15 @@ uint32_t twin_decide(uint8_t *m, size_t len, uint32_t channel, uint32_t wide, ui
     return bad(m, len) ? 0x1A : raw_decide(m, channel, wide, id, answer);
 }
 
+uint32_t twin_save(uint8_t *m, size_t len, uint32_t channel, uint8_t *b, size_t b_len, uint32_t *length) {
+    *length = 0;
+    return bad(m, len) ? 0x1A : raw_save(m, channel, b, b_len, length);
+}
+
+uint32_t twin_load(uint8_t *m, size_t len, uint32_t channel, const uint8_t *store, size_t store_len) {
+    return bad(m, len) ? 0x1A : raw_load(m, channel, store, store_len);
+}
+
 uint32_t twin_link_open(uint8_t *m, size_t len, uint32_t channel, uint32_t own, uint32_t destination, uint32_t rx_id, uint32_t application,
                         uint32_t block_size, uint32_t t1, uint32_t t3) {
     if (bad(m, len)) return 0x1A;

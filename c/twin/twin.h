@@ -44,6 +44,10 @@ uint32_t twin_get_list(uint8_t *m, size_t len, uint32_t channel, struct twin_pai
 /* Of channels 1 to 4, on the identifier alone: 0 dropped, 1 passes, 2 must see the data (early.h). */
 uint32_t twin_decide(uint8_t *m, size_t len, uint32_t channel, uint32_t wide, uint32_t id, uint32_t *answer);
 
+/* The set-up of channels 1 to 4 as a store, and back (store.h). */
+uint32_t twin_save(uint8_t *m, size_t len, uint32_t channel, uint8_t *b, size_t b_len, uint32_t *length);
+uint32_t twin_load(uint8_t *m, size_t len, uint32_t channel, const uint8_t *store, size_t store_len);
+
 /* TP2.0 connections of channels 1 to 4. */
 uint32_t twin_link_open(uint8_t *m, size_t len, uint32_t channel, uint32_t own, uint32_t destination, uint32_t rx_id, uint32_t application,
                         uint32_t block_size, uint32_t t1, uint32_t t3);
