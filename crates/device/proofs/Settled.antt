@@ -1,4 +1,4 @@
--- ANY TWO OUTCOMES OF A PUBLIC CALL ARE EQUAL: said of each of the 26 calls, of connect and set with rates that are lent, and of the look at the
+-- ANY TWO OUTCOMES OF A PUBLIC CALL ARE EQUAL: said of each of the 28 calls, of connect and set with rates that are lent, and of the look at the
 -- memory, over the very postcondition that the function is proved to meet.
 -- An outcome is what the function returns and what it leaves in the memory and in a lent buffer. Assumes nothing.
 use mathlib.Core.Path.{sym, ap, _∙_}
@@ -59,6 +59,10 @@ use Rattle.device_links.proofs.link_end.Reads as link-end
 use Rattle.decision.proofs.Numbers.{one-number}
 use Rattle.device_deciding.proofs.decide.Kinds as decide-kinds
 use Rattle.device_deciding.proofs.decide.Reads as decide
+use Rattle.device_setups.proofs.save.Kinds as save-kinds
+use Rattle.device_setups.proofs.save.Reads as save
+use Rattle.device_setups.proofs.load.Kinds as load-kinds
+use Rattle.device_setups.proofs.load.Reads as load
 use Rattle.device_lines.proofs.power_on.Kinds as power-on-kinds
 use Rattle.device_lines.proofs.power_on.Reads as power-on
 use Rattle.device_lines.proofs.close.Kinds as close-kinds
@@ -148,6 +152,12 @@ decide-settled κs a x y p q =
     let e = p ∙ sym q in
     let same = one-number (x .0 .decision) (y .0 .decision) (ap (λ (s : Result). s .value) e) in
     λ j. (record { code = e j .code; decision = same j }, (e j .memory, x .1 .1))
+
+pub save-settled : OneOutcome 2 save-kinds.ps save-kinds.r save.Post
+save-settled κs a x y p q = ap (λ (s : Result). (record { code = s .code; value = s .value }, (s .memory, (tt, (s .buffer, tt))))) (p ∙ sym q)
+
+pub load-settled : OneOutcome 2 load-kinds.ps load-kinds.r load.Post
+load-settled κs a x y p q = ap (λ (s : Result). (s .code, (s .memory, x .1 .1))) (p ∙ sym q)
 
 pub power-on-settled : OneOutcome 1 power-on-kinds.ps power-on-kinds.r power-on.Post
 power-on-settled κs a x y p q = ap (λ (s : Result). (s .code, (s .memory, x .1 .1))) (p ∙ sym q)

@@ -1,4 +1,4 @@
-// The 26 public calls of the box, on any bytes that are lent as its memory: each looks at the memory first, then does the call. The look itself
+// The 28 public calls of the box, on any bytes that are lent as its memory: each looks at the memory first, then does the call. The look itself
 // is `valid`.
 pub use box_places::BOX as MEMORY;
 pub use box_validity::valid;
@@ -27,6 +27,8 @@ pub use device_orders::start_flow_filter;
 pub use device_orders::start_periodic;
 pub use device_orders::stop_filter;
 pub use device_orders::stop_periodic;
+pub use device_setups::load;
+pub use device_setups::save;
 pub use device_traffic::read;
 pub use device_traffic::sent;
 pub use device_traffic::take;

@@ -16,6 +16,8 @@ pub use box_orders::start_flow_filter;
 pub use box_orders::start_periodic;
 pub use box_orders::stop_filter;
 pub use box_orders::stop_periodic;
+pub use box_setups::load;
+pub use box_setups::save;
 pub use box_times::advance;
 pub use box_traffic::read;
 pub use box_traffic::sent;

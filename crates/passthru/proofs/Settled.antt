@@ -57,6 +57,10 @@ use Rattle.passthru.proofs.trawl_link_send.Kinds as trawl-link-send-kin
 use Rattle.passthru.proofs.trawl_link_send.Reads as trawl-link-send
 use Rattle.passthru.proofs.trawl_link_end.Kinds as trawl-link-end-kinds
 use Rattle.passthru.proofs.trawl_link_end.Reads as trawl-link-end
+use Rattle.passthru.proofs.trawl_save.Kinds as trawl-save-kinds
+use Rattle.passthru.proofs.trawl_save.Reads as trawl-save
+use Rattle.passthru.proofs.trawl_load.Kinds as trawl-load-kinds
+use Rattle.passthru.proofs.trawl_load.Reads as trawl-load
 use Rattle.passthru.proofs.trawl_decide.Kinds as trawl-decide-kinds
 use Rattle.passthru.proofs.trawl_decide.Reads as trawl-decide
 use Rattle.passthru.proofs.trawl_clear.Kinds as trawl-clear-kinds
@@ -139,6 +143,12 @@ trawl-link-receive-settled κs a x y p q = alike (p ∙ sym q) (λ s. (s .code, 
 
 pub trawl-decide-settled : OneOutcome 2 trawl-decide-kinds.ps trawl-decide-kinds.r trawl-decide.Post
 trawl-decide-settled κs a x y p q = alike (p ∙ sym q) (λ s. (s .code, (s .memory, (tt, (tt, (tt, (s .value, tt)))))))
+
+pub trawl-save-settled : OneOutcome 3 trawl-save-kinds.ps trawl-save-kinds.r trawl-save.Post
+trawl-save-settled κs a x y p q = alike (p ∙ sym q) (λ s. (s .code, (s .memory, (tt, (s .buffer, (s .value, tt))))))
+
+pub trawl-load-settled : OneOutcome 2 trawl-load-kinds.ps trawl-load-kinds.r trawl-load.Post
+trawl-load-settled κs a x y p q = alike (p ∙ sym q) (λ s. (s .code, (s .memory, x .1 .1)))
 
 pub trawl-link-end-settled : OneOutcome 1 trawl-link-end-kinds.ps trawl-link-end-kinds.r trawl-link-end.Post
 trawl-link-end-settled κs a x y p q = alike (p ∙ sym q) (λ s. (s .code, (s .memory, x .1 .1)))

@@ -4,7 +4,7 @@ ghost use mathlib.Core.List.{[]};
 ghost use mathlib.Core.Bool.{not};
 ghost use lib.Dec.{eqb};
 ghost use Rattle.machine.specs.Codes.{twoRates};
-ghost use Rattle.machine.specs.Channel.{disconnect, clear, write, read, takeNext, sent, startFilter, startFlow, stopFilter, startPeriodic, stopPeriodic, getParameter, setParameter, lastError, getList, setList, flat, linkOpen, linkSend, linkReceive, linkEnd, decide};
+ghost use Rattle.machine.specs.Channel.{disconnect, clear, write, read, takeNext, sent, startFilter, startFlow, stopFilter, startPeriodic, stopPeriodic, getParameter, setParameter, lastError, getList, setList, flat, linkOpen, linkSend, linkReceive, linkEnd, decide, saveSetup, loadSetup};
 ghost use Rattle.machine.specs.Step.{call, connect, close, advance, frame};
 ghost use Rattle.layout.specs.Promise.{gives};
 ghost use Rattle.memory.specs.Memory.{valid};
@@ -271,6 +271,29 @@ pub extern "C" fn trawl_decide(
     let told = decided.decision;
     *answer = decision::number_of(told);
     decided.code
+}
+
+// Saves a raw channel's set-up as a store, over the start of a buffer; its length.
+#[no_mangle]
+pub extern "C" fn trawl_save(
+    mem: &mut [u8],
+    channel: u32,
+    buffer: &mut [u8],
+    length: &mut u32,
+) -> u32
+    ensures { λ c. ⌜ gives c (now (length .exit)) (now (buffer .exit)) (now (mem .exit)) ≡ outcome twoRates (now (mem .entry)) (call channel (saveSetup (now (buffer .entry)))) ⌝ }
+{
+    let saved = device::save(mem, channel, buffer);
+    *length = saved.value;
+    saved.code
+}
+
+// Loads a store onto a raw channel, or changes nothing.
+#[no_mangle]
+pub extern "C" fn trawl_load(mem: &mut [u8], channel: u32, store: &[u8]) -> u32
+    ensures { λ c. ⌜ gives c 0 [] (now (mem .exit)) ≡ outcome twoRates (now (mem .entry)) (call channel (loadSetup (now (store .entry)))) ⌝ }
+{
+    device::load(mem, channel, store)
 }
 
 // Asks for a TP2.0 connection on a raw channel's line.
