@@ -1,3 +1,5 @@
 pub mod Events
 pub mod Turning
 pub mod Promise
+pub mod Leaving
+pub mod Joined

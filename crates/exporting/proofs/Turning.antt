@@ -23,14 +23,14 @@ use Rattle.candump.specs.Log.{latest, lasts}
 use Rattle.exporting.specs.Pieces.{lineRoom, codeOf, Piece, piece, after, lineOf, writes, goesOn, Left, leaves, written, Exports, Reaches}
 use Rattle.exporting.proofs.Events.{line-short, second-most}
 
-least-one : (e : Event) → 1 ≤ least e
+pub least-one : (e : Event) → 1 ≤ least e
 least-one (connect l p f r) = omega arith
 least-one (call k x) = omega arith
 least-one (frame l w n b) = omega arith
 least-one (advance t) = omega arith
 least-one close = omega arith
 
-or-last : (g : Bool) → (g || true) ≡ true
+pub or-last : (g : Bool) → (g || true) ≡ true
 or-last true = refl
 or-last false = refl
 

@@ -1,0 +1,2 @@
+-- How much of a log is read. Assumes nothing.
+pub mod Cut

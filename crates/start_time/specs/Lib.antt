@@ -1,0 +1,2 @@
+-- The start time of a log as text. Assumes nothing.
+pub mod Start
