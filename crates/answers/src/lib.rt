@@ -1,10 +1,30 @@
 // Answers in bytes, for callers that know that there is room: a number, a code and a number, a code and a count, from a place on.
+ghost use mathlib.Core.Path.{_≡_};
 ghost use Prim.Native.Nat.{_+_, _≤_};
 ghost use lib.ListN.{length};
 ghost use Rattle.number.specs.Number.{bytesOf};
 ghost use Rattle.number.specs.Place.{Written};
 ghost use Rattle.answers.specs.Output.{numbered, counted};
 ghost use Rattle.answers.specs.Put.{Put};
+
+// How many bytes a number takes.
+pub fn number_size(value: u32) -> usize
+    ensures { λ r. ⌜ r ≡ length (bytesOf value) ⌝ }
+{
+    if value < 128 {
+        return 1;
+    }
+    if value < 16384 {
+        return 2;
+    }
+    if value < 2097152 {
+        return 3;
+    }
+    if value < 268435456 {
+        return 4;
+    }
+    5
+}
 
 // Writes a number from a place on, in as many bytes as it takes, and gives the place after them.
 pub fn put_number(out: &mut [u8], at: usize, value: u32) -> usize

@@ -1,0 +1,4 @@
+pub mod Turns
+pub mod Filters
+pub mod Periodics
+pub mod Store
