@@ -1,9 +1,9 @@
 -- What reads at a place of a store: a number, a filter, a periodic, the first of several entries. Assumes nothing.
-use Prim.Native.Nat.{ℕ, suc, _+_, _≤_}
-use mathlib.Core.Path.{_≡_, refl, sym, ap, ap₂, _∙_}
+use Prim.Native.Nat.{ℕ, zero, suc, _+_, _≤_, _<_}
+use mathlib.Core.Path.{_≡_, refl, sym, ap, ap₂, subst, _∙_}
 use mathlib.Core.Bool.{Bool, true, false, not, _&&_}
 use mathlib.Core.Option.{Option, none, some, Option·map}
-use mathlib.Core.List.{List, _∷_}
+use mathlib.Core.List.{List, [], _∷_}
 use native.Mathlib.Omega.{arith}
 use borrow.Author.Tests.{leb-true}
 use lib.Dec.{leb, eqb, eqb→eq}
@@ -14,15 +14,17 @@ use Rattle.number.specs.declared.Number.{Number}
 use Rattle.number.specs.declared.Number.the-variants.{Value, Bad}
 use Rattle.number.specs.Number.{Found, numberIn}
 use Rattle.number.specs.Place.{answer, numberAt}
-use Rattle.number.specs.Reads.{Reads, number, bytes}
+use Rattle.number.specs.Reads.{Reads, number, bytes, only}
 use Rattle.machine.specs.Limits.{mostPlaces, recordSize}
 use Rattle.machine.specs.Message.{Rec, clean, messageCode}
-use Rattle.machine.specs.Filter.{Filter, free, noneYet}
-use Rattle.machine.specs.Store.{isClean, cleanIn, eachIn}
+use Rattle.machine.specs.Filter.{Slots, Filter, free, noneYet}
+use Rattle.machine.specs.Store.{isClean, cleanIn, eachIn, placed, slotsIn}
 use Rattle.machine.specs.Channel.{filterCode, filterOf, periodicCode, blank, filterIn, periodicIn}
 use Rattle.machine.proofs.Tables.{failed, own-code, yes}
+use Rattle.setups.specs.Saved.{Rising, filled}
+use Rattle.setups.proofs.Filling.{filled-placed}
 use Rattle.setups.proofs.Reading.{same, no-value, split, done-there, where-there, only-there}
-use Rattle.store_filling.specs.Filling.{NumberThere}
+use Rattle.store_filling.specs.Filling.{NumberThere, There, Gives}
 
 -- ---- a number
 
@@ -146,20 +148,20 @@ periodic-read flags s at p next e j v n there ej =
 
 -- ---- the first of several
 
-pub record First {A : Type 0} (p : Reads A) (n : ℕ) (s : List ℕ) (at : ℕ) (es : List (ℕ × A)) (end : ℕ) : Type 0 where
+pub record First {A : Type 0} (p : Reads A) (before n : ℕ) (s : List ℕ) (at : ℕ) (es : List (ℕ × A)) (end : ℕ) : Type 0 where
   pub number-of : ℕ
   pub place : ℕ
   pub what : A
   pub after : ℕ
   pub others : List (ℕ × A)
   pub begins : number s at ≡ some (number-of, place)
-  pub low : 1 ≤ number-of
+  pub low : before < number-of
   pub high : number-of ≤ mostPlaces
   pub entry : p s place ≡ some (what, after)
   pub rest : eachIn p number-of n s after ≡ some (others, end)
   pub is : (number-of, what) ∷ others ≡ es
 
-pub first : {A : Type 0} (p : Reads A) (before n : ℕ) (s : List ℕ) (at : ℕ) (es : List (ℕ × A)) (end : ℕ) → eachIn p before (suc n) s at ≡ some (es, end) → First p n s at es end
+pub first : {A : Type 0} (p : Reads A) (before n : ℕ) (s : List ℕ) (at : ℕ) (es : List (ℕ × A)) (end : ℕ) → eachIn p before (suc n) s at ≡ some (es, end) → First p before n s at es end
 unfolding eachIn
 first p before n s at es end e =
     let x = split _ _ s at es end e in
@@ -167,7 +169,6 @@ first p before n s at es end e =
     let z = split (eachIn p (x .what) n) _ s (y .place) es end (y .rest) in
     let w = done-there ((x .what, y .what) ∷ z .what) es s (z .place) end (z .rest) in
     let t = only-there (within (suc before) mostPlaces) number (x .what) s at (x .place) (x .first) in
-    let l = within-low (suc before) mostPlaces (x .what) (t .1) in
     record {
       number-of = x .what;
       place = x .place;
@@ -175,9 +176,58 @@ first p before n s at es end e =
       after = y .place;
       others = z .what;
       begins = t .0;
-      low = omega arith;
+      low = within-low (suc before) mostPlaces (x .what) (t .1);
       high = within-high (suc before) mostPlaces (x .what) (t .1);
       entry = y .first;
       rest = z .first ∙ ap (λ (n′ : ℕ). some (z .what, n′)) (w .1);
       is = w .0;
     }
+
+-- the numbers of n entries rise
+pub each-rising : {A : Type 0} (p : Reads A) (n before : ℕ) (s : List ℕ) (at : ℕ) (es : List (ℕ × A)) (end : ℕ) → eachIn p before n s at ≡ some (es, end) → Rising before mostPlaces es
+unfolding eachIn
+each-rising {A} p zero before s at es end e = subst (λ (v : List (ℕ × A)). Rising before mostPlaces v) (done-there [] es s at end e .0) tt
+each-rising {A} p (suc n) before s at es end e =
+    let f = first p before n s at es end e in
+    subst (λ (v : List (ℕ × A)). Rising before mostPlaces v) (f .is) (f .low, (f .high, each-rising p n (f .number-of) s (f .after) (f .others) end (f .rest)))
+
+-- ---- how many, then they
+
+pub record SlotsRead {A : Type 0} (p : Reads A) (s : List ℕ) (at : ℕ) (v : Slots A) (next : ℕ) : Type 0 where
+  pub count : ℕ
+  pub place : ℕ
+  pub es : List (ℕ × A)
+  pub begins : number s at ≡ some (count, place)
+  pub each : eachIn p 0 count s place ≡ some (es, next)
+  pub is : filled noneYet es ≡ v
+
+pub slots-read : {A : Type 0} (p : Reads A) (s : List ℕ) (at : ℕ) (v : Slots A) (next : ℕ) → slotsIn p s at ≡ some (v, next) → SlotsRead p s at v next
+unfolding slotsIn
+slots-read p s at v next e =
+    let x = split (only (λ n. leb n mostPlaces) number) _ s at v next e in
+    let y = split (eachIn p 0 (x .what)) _ s (x .place) v next (x .rest) in
+    let d = done-there (placed 1 mostPlaces (y .what)) v s (y .place) next (y .rest) in
+    record {
+      count = x .what;
+      place = x .place;
+      es = y .what;
+      begins = only-there (λ n. leb n mostPlaces) number (x .what) s at (x .place) (x .first) .0;
+      each = y .first ∙ ap (λ (n : ℕ). some (y .what, n)) (d .1);
+      is = filled-placed (y .what) (each-rising p (x .what) 0 s (x .place) (y .what) (y .place) (y .first)) ∙ d .0;
+    }
+
+-- the entries, from their count on
+module _ {A : Type 0} (p : ℕ → Reads A) (s : List ℕ) (at v place : ℕ) (there : NumberThere s at v place) where
+  entries : (flags : ℕ) (a : Slots A) (next : ℕ) (q : SlotsRead (p flags) s at a next) → eachIn (p flags) 0 v s place ≡ some (q .es, next)
+  entries flags a next q = let h = there (q .count) (q .place) (q .begins) in ap₂ (λ (n i : ℕ). eachIn (p flags) 0 n s i) (h .0) (h .1) ∙ q .each
+
+  pub list-there : There (λ k. slotsIn (p k)) s at → There (λ k. eachIn (p k) 0 v) s place
+  list-there t =
+      let q = slots-read (p (t .flags)) s at (t .what) (t .next) (t .read) in
+      record { flags = t .flags; what = q .es; next = t .next; read = entries (t .flags) (t .what) (t .next) q }
+
+  pub slots-given : (r : ℕ) (m : List ℕ) (made : ℕ → Slots A → List ℕ) → Gives (λ k. eachIn (p k) 0 v) s place r m (λ k es. made k (filled noneYet es)) → Gives (λ k. slotsIn (p k)) s at r m made
+  slots-given r m made g flags a next e =
+      let q = slots-read (p flags) s at a next e in
+      let o = g flags (q .es) next (entries flags a next q) in
+      (o .0, o .1 ∙ ap (made flags) (q .is))

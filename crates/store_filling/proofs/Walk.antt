@@ -1,5 +1,5 @@
 -- THE SECOND WALK, for filters and for periodics: n entries that read, each written at the place of its number. Assumes nothing.
-use Prim.Native.Nat.{ℕ, suc, _-_, _≤_}
+use Prim.Native.Nat.{ℕ, zero, suc, _-_, _≤_}
 use mathlib.Core.Path.{_≡_, refl, sym, ap, ap₂, _∙_, subst}
 use mathlib.Core.Bool.{Bool}
 use mathlib.Core.Option.{Option, some}
@@ -16,11 +16,11 @@ use Rattle.number.specs.Laws.{Bytes}
 use Rattle.number.specs.Reads.{Reads}
 use Rattle.machine.specs.Limits.{mostPlaces}
 use Rattle.machine.specs.Filter.{Slots, noneYet}
-use Rattle.machine.specs.Store.{eachIn}
+use Rattle.machine.specs.Store.{eachIn, slotsIn}
 use Rattle.setups.specs.Saved.{filled}
 use Rattle.setups.proofs.Reading.{done-there}
 use Rattle.store_filling.specs.Filling.{NumberThere, There, Room, Gives}
-use Rattle.store_filling.proofs.Entries.{First, first}
+use Rattle.store_filling.proofs.Entries.{First, first, slots-read}
 
 -- entries are read by p and lie in places of the code d; g makes what is kept of one
 module _ {A B : Type 0} (p : ℕ → Reads A) (g : Option A → Option B) (d : ℕ → Code (Slots B)) where
@@ -49,6 +49,25 @@ module _ {A B : Type 0} (p : ℕ → Reads A) (g : Option A → Option B) (d : �
   abbrev Listed : List ℕ → ℕ → ℕ → Type 0
   Listed s at n = There (λ k. eachIn (p k) 0 n) s at
 
+  -- what the places hold in the end can be held there
+  pub filled-ok : (size : ℕ) → Kept size → (s : List ℕ) → Bytes s → (flags n before at : ℕ) (slots : Slots A) (es : List (ℕ × A)) (end : ℕ) → T (d flags .ok (map g slots))
+      → eachIn (p flags) before n s at ≡ some (es, end) → T (d flags .ok (map g (filled slots es)))
+  unfolding eachIn filled
+  filled-ok size law s b flags zero before at slots es end t e = subst (λ (x : List (ℕ × A)). T (d flags .ok (map g (filled slots x)))) (done-there [] es s at end e .0) t
+  filled-ok size law s b flags (suc n) before at slots es end t e =
+      let f = first (p flags) before n s at es end e in
+      let i : ℕ = f .number-of - 1 in
+      let k =
+      rows-set (law .rows flags) (map g slots) i (g (some (f .what))) t (law .fits s b flags (f .place) (f .what) (f .after) (f .entry)) in
+      subst (λ (x : List (ℕ × A)). T (d flags .ok (map g (filled slots x)))) (f .is)
+      (filled-ok size law s b flags n (f .number-of) (f .after) (set slots i (some (f .what))) (f .others) end
+      (subst (λ (x : Slots B). T (d flags .ok x)) (sym (map-set g slots i (some (f .what)))) k) (f .rest))
+
+  pub slots-ok : (size : ℕ) → Kept size → (s : List ℕ) → Bytes s → (flags at : ℕ) (v : Slots A) (next : ℕ) → slotsIn (p flags) s at ≡ some (v, next) → T (d flags .ok (map g v))
+  slots-ok size law s b flags at v next e =
+      let q = slots-read (p flags) s at v next e in
+      subst (λ (x : Slots A). T (d flags .ok (map g x))) (q .is) (filled-ok size law s b flags (q .count) 0 (q .place) noneYet (q .es) next (law .empty flags) (q .each))
+
   module _ (size : ℕ) (law : Kept size) (s : List ℕ) (at n : ℕ) where
     pub walk-starts : (m : List ℕ) → m ≡ zeros size → Walked s at n m at n
     walk-starts m e flags es end r = record { before = 0; more = es; read = r; slots = noneYet; ok = law .empty flags; is = e ∙ sym (law .none-is flags); same = refl }
@@ -63,7 +82,7 @@ module _ {A B : Type 0} (p : ℕ → Reads A) (g : Option A → Option B) (d : �
 
     -- one turn
     module _ (m : List ℕ) (next left l : ℕ) (h : left ≡ suc l) (w : Walked s at n m next left) (v place : ℕ) (there : NumberThere s next v place) where
-      one : (flags : ℕ) (es : List (ℕ × A)) (end : ℕ) (q : Rest s flags es end m next left) → First (p flags) l s next (q .more) end
+      one : (flags : ℕ) (es : List (ℕ × A)) (end : ℕ) (q : Rest s flags es end m next left) → First (p flags) (q .before) l s next (q .more) end
       one flags es end q = first (p flags) (q .before) l s next (q .more) end (ap (λ (j : ℕ). eachIn (p flags) (q .before) j s next) (sym h) ∙ q .read)
 
       entry-is : (flags : ℕ) (es : List (ℕ × A)) (end : ℕ) (q : Rest s flags es end m next left) → let f = one flags es end q in p flags s place ≡ some (f .what, f .after)
