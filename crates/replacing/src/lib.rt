@@ -6,9 +6,15 @@ ghost use Rattle.machine.specs.Store.{slotsIn};
 ghost use Rattle.machine.specs.Channel.{filterIn, periodicIn, startsAnew};
 ghost use Rattle.layout.specs.Sizes.{mappedSize, periodicsSize};
 ghost use Rattle.layout.specs.Memory.{mapped, periodics};
+ghost use Rattle.layout.specs.Promise.{Opened};
 ghost use Rattle.store_filling.specs.Filling.{There, Gives};
-ghost use Rattle.replacing.specs.Body.{BodyThere};
+ghost use Rattle.replacing.specs.Body.{BodyThere, Fitting, Replaced};
+use places::FILTERS;
 use places::FILTERS_SIZE;
+use places::LOOPBACK;
+use places::PERIODICS;
+use places::RATE;
+use places::WRITTEN;
 
 // Where the body of a store stands: behind its first number, in version 2 behind the flags.
 pub fn body_there(store: &[u8]) -> usize
@@ -46,4 +52,18 @@ pub fn put_periodics(part: &mut [u8], store: &[u8], at: usize) -> usize
     let count = store_filling::number_there(store, at);
     octets::zero(part);
     store_filling::fill_periodics(part, store, count.next, count.value)
+}
+
+// All that a store has, instead of what an open channel's region has of it: filters, periodics, loopback and rate.
+pub fn replace(r: &mut [u8], store: &[u8])
+    requires { ⌜ Opened (now r) × Fitting (now r) (now store) ⌝ }
+    ensures { λ u. ⌜ Replaced (now (r .entry)) (now (store .entry)) (now (r .exit)) ⌝ }
+{
+    let filters = body_there(store);
+    let periodics = put_filters(&mut r[FILTERS..PERIODICS], store, filters);
+    let config = put_periodics(&mut r[PERIODICS..WRITTEN], store, periodics);
+    let rate = store_filling::number_there(store, config);
+    let loopback = store_filling::number_there(store, rate.next);
+    r[LOOPBACK] = loopback.value as u8;
+    integers::put_word(&mut r[RATE..LOOPBACK], rate.value);
 }
