@@ -25,7 +25,7 @@ use places::TX_FLAGS_IN;
 const MOST_NUMBER: u32 = PLACES as u32;
 
 // A filter made of two records that passed the checks, at a place.
-fn put_filter(part: &mut [u8], i: usize, kind: u32, mask: &[u8], pattern: &[u8])
+pub fn put_filter(part: &mut [u8], i: usize, kind: u32, mask: &[u8], pattern: &[u8])
     requires { ⌜ FilterPart (now part) × (i < mostPlaces) × Checked kind (now mask) (now pattern) ⌝ }
     ensures { λ r. ⌜ ((flags : ℕ) → now (part .exit) ≡ filters flags .put (set (filters flags .get (now (part .entry))) i (some (filterOf kind (now (mask .entry)) (now (pattern .entry)))))) ⌝ }
 {
