@@ -1,53 +1,21 @@
 -- How many bytes numbers, advances and frames take. Assumes nothing.
-use Prim.Native.Nat.{ℕ, zero, suc, _+_, _*_, _/_, _%_, _≤_, _<_}
-use mathlib.Core.Path.{_≡_, refl, sym, ap, _∙_}
+use Prim.Native.Nat.{ℕ, _+_, _*_, _/_, _%_, _≤_, _<_}
+use mathlib.Core.Path.{_≡_, refl, sym, ap}
 use mathlib.Core.Logic.{⊎-elim}
 use mathlib.Core.Bool.{Bool, true, false}
-use mathlib.Core.List.{List, [], _∷_, _++_}
+use mathlib.Core.List.{List}
 use native.Mathlib.Omega.{arith}
 use lib.ListN.{length}
-use Rattle.codec.specs.Plain.{if_then_else_}
-use Rattle.number.specs.Number.{largest, groups, bytesOf}
+use Rattle.number.specs.Number.{bytesOf}
 use Rattle.number.proofs.Groups.{below}
-use Rattle.number.proofs.Laws.{groups-one, groups-more, written-short}
+use Rattle.number.proofs.Laws.{written-short}
 use Rattle.machine.specs.Limits.{mostBytes, lastLine}
-use Rattle.machine.specs.Step.{Event, advance, frame}
+use Rattle.machine.specs.Step.{frame}
 use Rattle.candump.specs.Line.{second}
-use Rattle.candump.specs.Log.{eventBytes, bytesAll, rest, full, advances}
-use Rattle.candump.proofs.Cost.{cost, cost-zero, cost-some, price-is, one-byte, two-bytes, advance-size}
+use Rattle.candump.specs.Log.{eventBytes, bytesAll, full, advances}
+use Rattle.candump.proofs.Cost.{cost, cost-zero, cost-some, price-is, one-byte}
 use Rattle.candump.proofs.Sizes.{frame-size}
 use Rattle.log_events.specs.Data.{markOf}
-
--- ---- a number
-
-more-size : (k v : ℕ) → 128 ≤ v → length (groups (suc k) v) ≡ 1 + length (groups k (v / 128))
-more-size k v h = ap length (groups-more k v h) ∙ omega arith
-
-one-size : (k v : ℕ) → v < 128 → length (groups (suc k) v) ≡ 1
-one-size k v h = ap length (groups-one k v h)
-
-module _ (v : ℕ) where
-  pub three-bytes : 16384 ≤ v → v < 2097152 → length (bytesOf v) ≡ 3
-  unfolding bytesOf
-  three-bytes h k =
-      omega (arith, more-size 4 v (omega arith), more-size 3 (v / 128) (omega arith), one-size 2 (v / 128 / 128) (omega arith))
-
-  pub four-bytes : 2097152 ≤ v → v < 268435456 → length (bytesOf v) ≡ 4
-  unfolding bytesOf
-  four-bytes h k =
-      omega (arith, more-size 4 v (omega arith), more-size 3 (v / 128) (omega arith), more-size 2 (v / 128 / 128) (omega arith), one-size 1 (v / 128 / 128 / 128) (omega arith))
-
-  pub five-bytes : 268435456 ≤ v → v ≤ largest → length (bytesOf v) ≡ 5
-  unfolding bytesOf
-  five-bytes h k =
-      omega (
-        arith,
-        more-size 4 v (omega arith),
-        more-size 3 (v / 128) (omega arith),
-        more-size 2 (v / 128 / 128) (omega arith),
-        more-size 1 (v / 128 / 128 / 128) (omega arith),
-        one-size 0 (v / 128 / 128 / 128 / 128) (omega arith),
-      )
 
 -- ---- the advances of a difference of time
 

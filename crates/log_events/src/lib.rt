@@ -20,25 +20,6 @@ const FRAME: u32 = 5;
 // The bytes of an advance of a whole second.
 const SECOND_SIZE: u64 = 4;
 
-// How many bytes a number takes.
-pub fn number_size(value: u32) -> u64
-    ensures { λ r. ⌜ r ≡ length (bytesOf value) ⌝ }
-{
-    if value < 128 {
-        return 1;
-    }
-    if value < 16384 {
-        return 2;
-    }
-    if value < 2097152 {
-        return 3;
-    }
-    if value < 268435456 {
-        return 4;
-    }
-    5
-}
-
 // How many bytes the advances of a difference of time take.
 pub fn advances_size(apart: u64) -> u64
     ensures { λ r. ⌜ r ≡ length (bytesAll (advances apart)) ⌝ }
@@ -48,7 +29,7 @@ pub fn advances_size(apart: u64) -> u64
     if rest < 1 {
         return seconds;
     }
-    seconds + 1 + number_size(rest)
+    seconds + 1 + answers::number_size(rest) as u64
 }
 
 // The width mark of a frame.
@@ -124,5 +105,5 @@ pub fn frame_size(line: u32, wide: bool, id: u32, text: &[u8]) -> u64
     requires { ⌜ GoodData (now text) × (line ≤ lastLine) × (length (dataOf (now text)) ≤ mostBytes) ⌝ }
     ensures { λ r. ⌜ r ≡ length (eventBytes (frame line (markOf wide) id (dataOf (now (text .entry))))) ⌝ }
 {
-    4 + number_size(id) + (text.len() / 2) as u64
+    4 + answers::number_size(id) as u64 + (text.len() / 2) as u64
 }

@@ -4,7 +4,7 @@ use mathlib.Core.List.{_++_}
 use lib.ListN.{length}
 use denote.Ref.{now}
 use Rattle.number.specs.Number.{bytesOf}
-use Rattle.machine.specs.Store.{slotsBytes}
+use Rattle.machine.specs.Store.{slotsBytes, filterBytes}
 use Rattle.machine.specs.Filter.{Slots, Filter}
 use Rattle.answers.proofs.Put.{put-number}
 use Rattle.store_sizes.proofs.Filters.{ten-filters}
@@ -14,7 +14,6 @@ use Prim.Native.Nat.{ℕ, _-_, _≤_}
 use native.Mathlib.Omega.{arith}
 use borrow.Author.Needs.{needs}
 use Rattle.machine.specs.Limits.{mostPlaces}
-use Rattle.machine.specs.Store.{filterBytes}
 use Rattle.store_sizes.specs.Entries.{entriesFrom, takenFrom, filtersOf}
 use Rattle.saving.proofs.Going.{Going, going-from, going-on, going-last, going-long, next-fits, rest-fits}
 use Rattle.saving.proofs.put_filters.Statement.{statement}

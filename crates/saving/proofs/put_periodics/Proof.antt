@@ -4,7 +4,7 @@ use mathlib.Core.List.{_++_}
 use lib.ListN.{length}
 use denote.Ref.{now}
 use Rattle.number.specs.Number.{bytesOf}
-use Rattle.machine.specs.Store.{slotsBytes}
+use Rattle.machine.specs.Store.{slotsBytes, periodicBytes}
 use Rattle.machine.specs.Message.{Rec}
 use Rattle.machine.specs.Filter.{Slots}
 use Rattle.answers.proofs.Put.{put-number}
@@ -15,7 +15,6 @@ use Prim.Native.Nat.{ℕ, _-_, _≤_}
 use native.Mathlib.Omega.{arith}
 use borrow.Author.Needs.{needs}
 use Rattle.machine.specs.Limits.{mostPlaces}
-use Rattle.machine.specs.Store.{periodicBytes}
 use Rattle.store_sizes.specs.Entries.{entriesFrom, takenFrom, periodicsOf}
 use Rattle.saving.proofs.Going.{Going, going-from, going-on, going-last, going-long, next-fits, rest-fits}
 use Rattle.saving.proofs.put_periodics.Statement.{statement}
