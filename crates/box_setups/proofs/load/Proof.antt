@@ -15,7 +15,7 @@ note-requires c κs =
     let at = did .before .before .before in
     let seat = at .raw-region-of .ensures .seat (did .before .before .if1 .left) in
     let long : length (did .load-in .last .0) ≡ regionSize = omega arith in
-    raw-noted _ (at .before .before .before .before .pre) _ _ seat _ _ _ _ _ _ (did .load-in .ensures _) long
+    raw-noted _ (at .before .before .before .before .before .pre) _ _ seat _ _ _ _ _ _ (did .load-in .ensures _) long
 
 returns-2 : tie.Need-returns-2
 returns-2 c =
@@ -23,7 +23,7 @@ returns-2 c =
     let at = did .before .before .before in
     let seat = at .raw-region-of .ensures .seat (did .before .before .if1 .left) in
     let long : length (did .load-in .last .0) ≡ regionSize = omega arith in
-    raw-called _ (at .before .before .before .before .pre) _ _ seat _ _ _ _ _ _ _ long (did .load-in .ensures _) (c .before .before .note .ensures)
+    raw-called _ (at .before .before .before .before .before .pre) _ _ seat _ _ _ _ _ _ _ long (did .load-in .ensures _) (c .before .before .note .ensures)
 
 pub load-spec : {M : Type 1} → statement M
 unfolding lent rawLent
@@ -36,8 +36,8 @@ load-spec =
     (λ c. let s = c .before .raw-region-of .ensures .seat (c .if1 .left) in omega (arith, s .is, s .low, s .high))
     (λ c. search needs)
     (λ c. search needs)
-    (λ c. raw-ends _ (c .before .before .before .before .before .pre) _ _ (c .before .raw-region-of .ensures .seat (c .if1 .left)))
-    (λ c κs. raw-lent _ (c .before .before .before .before .before .before .pre) _ _ (c .before .before .raw-region-of .ensures .seat (c .before .if1 .left)))
+    (λ c. raw-ends _ (c .before .before .before .before .before .before .pre) _ _ (c .before .raw-region-of .ensures .seat (c .if1 .left)))
+    (λ c κs. raw-lent _ (c .before .before .before .before .before .before .before .pre) _ _ (c .before .before .raw-region-of .ensures .seat (c .before .if1 .left)))
     note-requires
     (λ c. search needs)
     returns-2)

@@ -10,16 +10,16 @@ use Rattle.box_setups.proofs.save.Tie as tie
 
 note-requires : tie.Need-note-requires
 note-requires c κs =
-    let did = c .before .before in
-    let at = did .before .before .before .before in
-    let seat = at .raw-region-of .ensures .seat (did .before .before .before .if1 .left) in
+    let did = c .before .before .before in
+    let at = did .before .before .before .before .before in
+    let seat = at .raw-region-of .ensures .seat (did .before .before .before .before .if1 .left) in
     (raw-ends _ (at .before .before .before .before .pre) _ _ seat, raw-noted _ (at .before .before .before .before .pre) _ _ seat [] _ _ _ _ _ (did .save-in .ensures [] _) (raw-lent _ (at .before .before .before .before .pre) _ _ seat .long) .1)
 
 returns-2 : tie.Need-returns-2
 returns-2 c rates =
-    let did = c .before .before .before .before .before in
-    let at = did .before .before .before .before in
-    let seat = at .raw-region-of .ensures .seat (did .before .before .before .if1 .left) in
+    let did = c .before .before .before .before .before .before in
+    let at = did .before .before .before .before .before in
+    let seat = at .raw-region-of .ensures .seat (did .before .before .before .before .if1 .left) in
     raw-looked _ (at .before .before .before .before .pre) _ _ seat rates _ _ _ _ (did .save-in .ensures rates _) _ (c .before .before .note .ensures)
 
 pub save-spec : {M : Type 1} → statement M
@@ -34,7 +34,7 @@ save-spec =
     (λ c. search needs)
     (λ c. search needs)
     (λ c. raw-ends _ (c .before .before .before .before .before .before .pre) _ _ (c .before .before .raw-region-of .ensures .seat (c .before .if1 .left)))
-    (λ c κs. raw-lent _ (c .before .before .before .before .before .before .before .pre) _ _ (c .before .before .before .raw-region-of .ensures .seat (c .before .before .if1 .left)))
+    (λ c κs. raw-lent _ (c .before .before .before .before .before .before .before .before .pre) _ _ (c .before .before .before .before .raw-region-of .ensures .seat (c .before .before .before .if1 .left)))
     note-requires
     (λ c. search needs)
     (λ c. search needs)
