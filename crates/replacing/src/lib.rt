@@ -17,7 +17,7 @@ use places::RATE;
 use places::WRITTEN;
 
 // Where the body of a store stands: behind its first number, in version 2 behind the flags.
-pub fn body_there(store: &[u8]) -> usize
+fn body_there(store: &[u8]) -> usize
     ensures { λ r. ⌜ BodyThere (now (store .entry)) r ⌝ }
 {
     let version = store_filling::number_there(store, 0);
@@ -28,7 +28,7 @@ pub fn body_there(store: &[u8]) -> usize
 }
 
 // The filters of a store instead of those there, and the maps that follow from them.
-pub fn put_filters(part: &mut [u8], store: &[u8], at: usize) -> usize
+fn put_filters(part: &mut [u8], store: &[u8], at: usize) -> usize
     requires { ⌜ There (λ flags. slotsIn (filterIn flags)) (now store) at × (length (now part) ≡ mappedSize) ⌝ }
     ensures { λ r. ⌜ Gives (λ flags. slotsIn (filterIn flags)) (now (store .entry)) at r (now (part .exit)) (λ flags fs. mapped flags .put fs) ⌝ }
 {
@@ -45,7 +45,7 @@ pub fn put_filters(part: &mut [u8], store: &[u8], at: usize) -> usize
 }
 
 // The periodics of a store instead of those there, each pending at once.
-pub fn put_periodics(part: &mut [u8], store: &[u8], at: usize) -> usize
+fn put_periodics(part: &mut [u8], store: &[u8], at: usize) -> usize
     requires { ⌜ There (λ flags. slotsIn (periodicIn flags)) (now store) at × (length (now part) ≡ periodicsSize) ⌝ }
     ensures { λ r. ⌜ Gives (λ flags. slotsIn (periodicIn flags)) (now (store .entry)) at r (now (part .exit)) (λ flags ps. periodics flags .put (map startsAnew ps)) ⌝ }
 {
