@@ -1,5 +1,5 @@
-// Shows the saved set-up on standard input in words: its configuration, its filters and its periodics. A line on standard error says that it is bad,
-// and then nothing is shown, why a good one cannot be loaded, or that the program could not read or write.
+// Shows the saved set-up on standard input in words: its configuration, its filters and its periodics. A line on standard error says that it is bad
+// and where, and then nothing is shown, why a good one cannot be loaded, or that the program could not read or write.
 use libc::STDERR_FILENO;
 use libc::STDOUT_FILENO;
 
@@ -25,6 +25,16 @@ fn warn(flags: u32, retired: bool) {
     }
 }
 
+// Says that a store is bad, and the place of the first number, filter or periodic that is.
+fn refuse(store: &[u8], flags: u32) {
+    io::write_all(STDERR_FILENO, b"store: bad store: at byte ");
+    io::print_decimal(
+        STDERR_FILENO,
+        store_fault::bad_at(store, &can::OLD_RATES, flags) as u64,
+    );
+    io::write_all(STDERR_FILENO, b"\n");
+}
+
 // Shows a store that was good in its time, or says that it is bad.
 fn tell(store: &[u8]) {
     let flags = store_words::flags_of(store);
@@ -36,7 +46,7 @@ fn tell(store: &[u8]) {
             os::fail(b"store: standard output");
         }
     } else {
-        io::write_all(STDERR_FILENO, b"store: bad store\n");
+        refuse(store, flags);
     }
 }
 
