@@ -9,7 +9,7 @@ use Rattle.codec.specs.Plain.{if_then_else_}
 use Rattle.link.specs.Connection.{Connection, absent, Offer}
 use Rattle.machine.specs.Store.{readWhole}
 use Rattle.machine.specs.Message.{Rec}
-use Rattle.machine.specs.Channel.{Chan, closed, opened, Open, withConfig, withFilters, withSending, withReceiving, Call, disconnect, startFilter, startFlow, stopFilter, startPeriodic, stopPeriodic, write, read, takeNext, sent, clear, getParameter, setParameter, lastError, getList, setList, opensLink, sendsLink, receivesLink, endsLink, decides, saves, loads, onRaw, says, Outcome, unless, doneWith, onStartFilter, onStopFilter, reading, onRead, onWrite, onStartPeriodic, onStopPeriodic, Next, next, giving, chosen, mayGo, chosenOr, taking, onTake, sending, onSent, onClear, onGet, setTo, onSet, onGetList, onSetList, onLinkOpen, onLinkSend, onLinkReceive, onLinkEnd, onRawCall, onDecide, storeIn, onSave, loaded, onLoad, onOpen}
+use Rattle.machine.specs.Channel.{Chan, closed, opened, Open, withConfig, withFilters, withSending, withReceiving, Call, disconnect, startFilter, startFlow, stopFilter, startPeriodic, stopPeriodic, write, read, takeNext, sent, clear, getParameter, setParameter, lastError, getList, setList, opensLink, sendsLink, receivesLink, endsLink, decides, saves, loads, onRaw, says, Outcome, unless, doneWith, onStartFilter, onStopFilter, reading, onRead, onWrite, onStartPeriodic, onStopPeriodic, Next, next, giving, chosen, mayGo, chosenOr, taking, onTake, sending, onSent, onClear, onGet, setTo, onSet, onGetList, onSetList, onLinkOpen, onLinkSend, onLinkReceive, onLinkEnd, onRawCall, onDecide, storeIn, onSave, loaded, onLoad, onOpen, onCall, muted}
 use Rattle.machine.proofs.Refusals.{unless-case, if-case, load-case}
 
 -- the connection of a channel
@@ -53,28 +53,32 @@ module _ (o : Open) where
   sent-leaves now none = same _ refl
   sent-leaves now (some r) = done _ refl
 
-  pub link-left : (rates : List ℕ) (now : ℕ) (x : Call) → Leaves (o .link) (onOpen rates now o x)
+  does-leave : (rates : List ℕ) (now : ℕ) (x : Call) → Leaves (o .link) (onOpen rates now o x)
   unfolding onOpen onRawCall onDecide onSave onLoad loaded onStartFilter onStopFilter onStartPeriodic onStopPeriodic onWrite onRead reading onTake onSent onClear onGet onSet setTo onGetList onSetList onLinkOpen onLinkSend onLinkReceive onLinkEnd withFilters withSending withReceiving withConfig doneWith says
-  link-left rates now disconnect = done _ refl
-  link-left rates now (startFilter t m p) = refused _ _ _ _ (done _ refl) (same _ refl)
-  link-left rates now (startFlow t m p f) = refused _ _ _ _ (done _ refl) (same _ refl)
-  link-left rates now (stopFilter k) = refused _ _ _ _ (done _ refl) (same _ refl)
-  link-left rates now (startPeriodic m i) = refused _ _ _ _ (done _ refl) (same _ refl)
-  link-left rates now (stopPeriodic k) = refused _ _ _ _ (done _ refl) (same _ refl)
-  link-left rates now (write k b) = refused _ _ _ _ (same _ refl) (same _ refl)
-  link-left rates now (read k b) = search (refused, either, same, refl)
-  link-left rates now (takeNext b) = refused _ _ _ _ (take-leaves b (o .sending .flight)) (same _ refl)
-  link-left rates now sent = sent-leaves now (o .sending .flight)
-  link-left rates now (clear k) = search (either, done, same, refl) depth 9
-  link-left rates now (getParameter p) = same _ refl
-  link-left rates now (setParameter p v) = same _ refl
-  link-left rates now lastError = same _ refl
-  link-left rates now (getList ps) = refused _ _ _ _ (same _ refl) (same _ refl)
-  link-left rates now (setList ps) = refused _ _ _ _ (same _ refl) (same _ refl)
-  link-left rates now (onRaw (opensLink a)) = refused _ _ _ _ (done _ refl) (same _ refl)
-  link-left rates now (onRaw (sendsLink m)) = refused _ _ _ _ (done _ refl) (same _ refl)
-  link-left rates now (onRaw (receivesLink b)) = refused _ _ _ _ (done _ refl) (same _ refl)
-  link-left rates now (onRaw endsLink) = refused _ _ _ _ (done _ refl) (same _ refl)
-  link-left rates now (onRaw (decides w i)) = refused _ _ _ _ (done _ refl) (same _ refl)
-  link-left rates now (onRaw (saves b)) = refused _ _ _ _ (done _ refl) (same _ refl)
-  link-left rates now (onRaw (loads s)) = load-case (Leaves (o .link)) o (readWhole (storeIn rates) s) (same _ refl) (λ t. same _ refl)
+  does-leave rates now disconnect = done _ refl
+  does-leave rates now (startFilter t m p) = refused _ _ _ _ (done _ refl) (same _ refl)
+  does-leave rates now (startFlow t m p f) = refused _ _ _ _ (done _ refl) (same _ refl)
+  does-leave rates now (stopFilter k) = refused _ _ _ _ (done _ refl) (same _ refl)
+  does-leave rates now (startPeriodic m i) = refused _ _ _ _ (done _ refl) (same _ refl)
+  does-leave rates now (stopPeriodic k) = refused _ _ _ _ (done _ refl) (same _ refl)
+  does-leave rates now (write k b) = refused _ _ _ _ (same _ refl) (same _ refl)
+  does-leave rates now (read k b) = search (refused, either, same, refl)
+  does-leave rates now (takeNext b) = refused _ _ _ _ (take-leaves b (o .sending .flight)) (same _ refl)
+  does-leave rates now sent = sent-leaves now (o .sending .flight)
+  does-leave rates now (clear k) = search (either, done, same, refl) depth 9
+  does-leave rates now (getParameter p) = same _ refl
+  does-leave rates now (setParameter p v) = same _ refl
+  does-leave rates now lastError = same _ refl
+  does-leave rates now (getList ps) = refused _ _ _ _ (same _ refl) (same _ refl)
+  does-leave rates now (setList ps) = refused _ _ _ _ (same _ refl) (same _ refl)
+  does-leave rates now (onRaw (opensLink a)) = refused _ _ _ _ (done _ refl) (same _ refl)
+  does-leave rates now (onRaw (sendsLink m)) = refused _ _ _ _ (done _ refl) (same _ refl)
+  does-leave rates now (onRaw (receivesLink b)) = refused _ _ _ _ (done _ refl) (same _ refl)
+  does-leave rates now (onRaw endsLink) = refused _ _ _ _ (done _ refl) (same _ refl)
+  does-leave rates now (onRaw (decides w i)) = refused _ _ _ _ (done _ refl) (same _ refl)
+  does-leave rates now (onRaw (saves b)) = refused _ _ _ _ (done _ refl) (same _ refl)
+  does-leave rates now (onRaw (loads s)) = load-case (Leaves (o .link)) o (readWhole (storeIn rates) s) (same _ refl) (λ t. same _ refl)
+
+  pub link-left : (rates : List ℕ) (now : ℕ) (x : Call) → Leaves (o .link) (onCall rates now (opened o) x)
+  unfolding onCall says
+  link-left rates now x = either (muted o x) _ _ (same _ refl) (does-leave rates now x)

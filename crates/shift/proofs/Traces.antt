@@ -8,7 +8,7 @@ use Rattle.machine.specs.Codes.{codeOf, threeRates}
 use Rattle.machine.specs.Message.{bit, widthFlag, idBytes, idOf, idLimit, takes, twelve, shown, shownAll, protocolOf, txFlagsOf, sizeOf, wideOf, dataOf, messageCode, clean, received}
 use Rattle.machine.specs.Filter.{noneYet, free, taken, has, anySlot, matches, hits, passes}
 use Rattle.machine.specs.Early.{earlyNumber}
-use Rattle.machine.specs.Channel.{Answer, withConfig, withFilters, withSending, withReceiving, withLast, lent, says, unless, doneWith, shorter, filterCode, filterOf, onStartFilter, onStopFilter, arrive, frameCode, offered, onFrame, readCode, reading, onRead, writeCode, unlessStopped, writing, onWrite, periodicCode, periodicOf, onStartPeriodic, onStopPeriodic, period, later, laterSlot, onAdvance, nextWritten, behind, calm, next, giving, chosen, taking, onTake, landed, sending, onSent, onClear, flat, getIn, setIn, setAll, getAll, onGet, setTo, onSet, listCode, onGetList, onSetList, isFlags, connectCode, fresh, isOpen, onConnect, onOpen, onCall, notes, noted, notedInUse, withLink, heardBy, telegram, mayGo, chosenOr, linkCode, onLinkOpen, onLinkSend, onLinkReceive, onLinkEnd, onRawCall, onDecide, decided, rawLent}
+use Rattle.machine.specs.Channel.{Answer, withConfig, withFilters, withSending, withReceiving, withLast, lent, says, unless, doneWith, shorter, filterCode, filterOf, onStartFilter, onStopFilter, arrive, frameCode, offered, onFrame, readCode, reading, onRead, writeCode, unlessStopped, writing, onWrite, periodicCode, periodicOf, onStartPeriodic, onStopPeriodic, period, later, laterSlot, onAdvance, nextWritten, behind, calm, next, giving, chosen, taking, onTake, landed, sending, onSent, onClear, flat, getIn, setIn, setAll, getAll, onGet, setTo, onSet, listCode, onGetList, onSetList, isFlags, connectCode, fresh, isOpen, onConnect, onOpen, onCall, notes, noted, notedInUse, withLink, heardBy, telegram, mayGo, chosenOr, linkCode, onLinkOpen, onLinkSend, onLinkReceive, onLinkEnd, onRawCall, onDecide, decided, rawLent, isRawFlags, listens}
 use Rattle.link.specs.Connection.{micros, withWire, withTalk, withHear, withCare, anew, exit, leave, telegrams, blockOf, nextData, tookTo, newBlock, ours, setUpOf, offering, offerData, offerAcknowledge, offerOn, offerTrial, offerExit, offer, dataSent, landedOn, trialSent, exitSent, wasSent, tried, outLater, careLater, wireLater, linkLater, exitLater, passing as link-passing, replied, joined, nextBlock, acknowledged, breaking, broken, heardData, answering, dataHeard, told, hears, askedFits, stateOf, onLink, underWay, busy, whole, begin, fetched, ended as link-ended}
 use Rattle.telegram.specs.Bits.{onlyIf, areBytes}
 use Rattle.telegram.specs.Telegram.{openingFits, fieldsFit, openingBytes, idAt, openingOf, readOpening, unusedTime, ownConnection, fits, onWire, connectionOf, readChannel, timeOf}
@@ -31,7 +31,7 @@ use Rattle.shift.specs.Report.{eleven, numbersOf, ofFour, spaced, line, 
 
 -- the report with everything open
 unfoldable pub reported : List ℕ → List ℕ
-unfolding within member allBelow word wordAt codeOf threeRates bit widthFlag idBytes idOf idLimit takes twelve shown shownAll protocolOf txFlagsOf sizeOf wideOf dataOf messageCode clean received noneYet free taken has anySlot matches hits passes withConfig withFilters withSending withReceiving withLast lent says unless doneWith shorter filterCode filterOf onStartFilter onStopFilter arrive frameCode offered onFrame readCode reading onRead writeCode unlessStopped writing onWrite periodicCode periodicOf onStartPeriodic onStopPeriodic period later laterSlot onAdvance nextWritten behind calm next giving chosen taking onTake landed sending onSent onClear flat getIn setIn setAll getAll onGet setTo onSet listCode onGetList onSetList isFlags connectCode fresh isOpen onConnect onOpen onCall notes noted notedInUse chanStep clockAfter raw-step.ownAnswer noTalks setTalks setConfig setWritten setFlight setReceiving setLast turned turnedSlot turnEach turnAt news newsAt extraOf padded shownIso shownIsoAll shorterIso unlessIso did numberAfter framed singleFrame unSingle firstFrame nextFrame flowFrame gapOf arriveIso rxStart arrived txDone becomes ended low onSingle onFirst onNext staged onFlow onConsecutive onFlowOf transmitting listening heard airborne airborneAt ownerIn flightIn withTalks onIsoFrame laterStage laterTransfer onIsoAdvance knows talkCode talkOf onStartTalk onStopTalk isoMessageCode carries isoWriteCode isoWriting onIsoWrite passing iso-giving lowest given answerOf nextOf segmentOf startOf starting orElse choice showing onChosen isoTaking onIsoTake wholeOf sentStage sentOf doneOf landedTalks messagesDone doneRecords isoSending isoReading onIsoRead onIsoClear onIsoGet isoSetTo onIsoSet onIsoGetList onIsoSetList isoConnectCode freshIso isReady onIsoConnect onReady onIsoCall isoNotes isoNoted isoNotedInUse isoStep powerOn chanAt isoAt anyAt lineOf protocolAt nameable touches connected numbered speaker ownAnswer anyStep moved after answerBy answer step run answers withLink heardBy telegram mayGo chosenOr linkCode onLinkOpen onLinkSend onLinkReceive onLinkEnd onRawCall onDecide rawLent decided earlyNumber micros withWire withTalk withHear withCare anew exit leave telegrams blockOf nextData tookTo newBlock ours setUpOf offering offerData offerAcknowledge offerOn offerTrial offerExit offer dataSent landedOn trialSent exitSent wasSent tried outLater careLater wireLater linkLater exitLater link-passing replied joined nextBlock acknowledged breaking broken heardData answering dataHeard told hears askedFits stateOf onLink underWay busy whole begin fetched link-ended onlyIf areBytes openingFits fieldsFit openingBytes idAt openingOf readOpening unusedTime ownConnection fits onWire connectionOf readChannel timeOf bind onIso recordOn twoRates queueOf number.front number.joined number.highest number.shortest number.taken number.numberIn edition.marked edition.ratesOf edition.startOf events._>>=_ events.done events.bad events.number events.bytes events.recordIn events.atMost64 events.startIn events.arguments events.argumentsOf events.readEvent andThen eventsFrom eventsOf digit short decimal numbers.one numbers.heldIn numbers.openAnd numbers.taken numbers.good numbers.fits numbers.wanted numbers.unwanted numbers.lets numbers.countedAs numbers.ofCall numbers.isSent numbers.readCount numbers.isClear2 numbers.isDisconnect numbers.echoes numbers.isClose numbers.offered numbers.width numbers.unmatched numbers.blocked numbers.passed numbers.echoed numbers.lost numbers.reads numbers.cleared numbers.dropped numbers.held numbers.tally eleven numbersOf ofFour spaced line report
+unfolding within member allBelow word wordAt codeOf threeRates bit widthFlag idBytes idOf idLimit takes twelve shown shownAll protocolOf txFlagsOf sizeOf wideOf dataOf messageCode clean received noneYet free taken has anySlot matches hits passes withConfig withFilters withSending withReceiving withLast lent says unless doneWith shorter filterCode filterOf onStartFilter onStopFilter arrive frameCode offered onFrame readCode reading onRead writeCode unlessStopped writing onWrite periodicCode periodicOf onStartPeriodic onStopPeriodic period later laterSlot onAdvance nextWritten behind calm next giving chosen taking onTake landed sending onSent onClear flat getIn setIn setAll getAll onGet setTo onSet listCode onGetList onSetList isFlags isRawFlags listens connectCode fresh isOpen onConnect onOpen onCall notes noted notedInUse chanStep clockAfter raw-step.ownAnswer noTalks setTalks setConfig setWritten setFlight setReceiving setLast turned turnedSlot turnEach turnAt news newsAt extraOf padded shownIso shownIsoAll shorterIso unlessIso did numberAfter framed singleFrame unSingle firstFrame nextFrame flowFrame gapOf arriveIso rxStart arrived txDone becomes ended low onSingle onFirst onNext staged onFlow onConsecutive onFlowOf transmitting listening heard airborne airborneAt ownerIn flightIn withTalks onIsoFrame laterStage laterTransfer onIsoAdvance knows talkCode talkOf onStartTalk onStopTalk isoMessageCode carries isoWriteCode isoWriting onIsoWrite passing iso-giving lowest given answerOf nextOf segmentOf startOf starting orElse choice showing onChosen isoTaking onIsoTake wholeOf sentStage sentOf doneOf landedTalks messagesDone doneRecords isoSending isoReading onIsoRead onIsoClear onIsoGet isoSetTo onIsoSet onIsoGetList onIsoSetList isoConnectCode freshIso isReady onIsoConnect onReady onIsoCall isoNotes isoNoted isoNotedInUse isoStep powerOn chanAt isoAt anyAt lineOf protocolAt nameable touches connected numbered speaker ownAnswer anyStep moved after answerBy answer step run answers withLink heardBy telegram mayGo chosenOr linkCode onLinkOpen onLinkSend onLinkReceive onLinkEnd onRawCall onDecide rawLent decided earlyNumber micros withWire withTalk withHear withCare anew exit leave telegrams blockOf nextData tookTo newBlock ours setUpOf offering offerData offerAcknowledge offerOn offerTrial offerExit offer dataSent landedOn trialSent exitSent wasSent tried outLater careLater wireLater linkLater exitLater link-passing replied joined nextBlock acknowledged breaking broken heardData answering dataHeard told hears askedFits stateOf onLink underWay busy whole begin fetched link-ended onlyIf areBytes openingFits fieldsFit openingBytes idAt openingOf readOpening unusedTime ownConnection fits onWire connectionOf readChannel timeOf bind onIso recordOn twoRates queueOf number.front number.joined number.highest number.shortest number.taken number.numberIn edition.marked edition.ratesOf edition.startOf events._>>=_ events.done events.bad events.number events.bytes events.recordIn events.atMost64 events.startIn events.arguments events.argumentsOf events.readEvent andThen eventsFrom eventsOf digit short decimal numbers.one numbers.heldIn numbers.openAnd numbers.taken numbers.good numbers.fits numbers.wanted numbers.unwanted numbers.lets numbers.countedAs numbers.ofCall numbers.isSent numbers.readCount numbers.isClear2 numbers.isDisconnect numbers.echoes numbers.isClose numbers.offered numbers.width numbers.unmatched numbers.blocked numbers.passed numbers.echoed numbers.lost numbers.reads numbers.cleared numbers.dropped numbers.held numbers.tally eleven numbersOf ofFour spaced line report
 reported recording = report recording
 
 -- the line of a channel of which nothing was counted
