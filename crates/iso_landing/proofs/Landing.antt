@@ -130,6 +130,7 @@ module _ (r : List ℕ) (v : IsoOpened r) where
           queue-ok = g .queue-ok;
           last-ok = g .last-ok;
           linked-ok = landed .linked-ok;
+          no-listener = g .no-listener;
         }
 
     abbrev put′ : List ℕ

@@ -28,7 +28,7 @@ use Rattle.iso_layout.specs.Region.{messageCell, frameCell, ownedFits, h
 use Rattle.layout.specs.Memory.{config}
 use Rattle.layout.specs.Reach.{CallBytes, Bytes}
 use Rattle.machine.proofs.Tables.{by-test, Failed, Telling, failed, by-code, own-code, yes}
-use Rattle.layout.proofs.Held.{config-make}
+use Rattle.layout.proofs.Held.{config-make, raw-flags, plain-silent}
 use Rattle.layout.proofs.Calls.{data-bytes, Known, config-set, config-set-all}
 use Rattle.iso_layout.proofs.Sizes.{isoRegion-size}
 use Rattle.iso_layout.proofs.Lawful.{isoRegion-lawful}
@@ -125,6 +125,7 @@ module _ (o : OpenIso) (g : GoodIso o) where
         queue-ok = q;
         last-ok = k;
         linked-ok = l;
+        no-listener = g .no-listener;
       }
 
   put-written : (ws : List Rec) → T (upTo mostMessages (messageCell (fli o)) .ok ws) → FineIso (ready (setWritten o ws))
@@ -156,6 +157,7 @@ module _ (o : OpenIso) (g : GoodIso o) where
         queue-ok = g .queue-ok;
         last-ok = g .last-ok;
         linked-ok = g .linked-ok;
+        no-listener = g .no-listener;
       })
 
   put-set : (r : ℕ × Config) → T (config .ok (r .1)) × (r .1 .flags ≡ fli o) → Left (isoSetTo o r)
@@ -388,7 +390,7 @@ module _ (rates : List ℕ) (known : Known rates) (now : ℕ) (h : now < 2 ^ 32)
   fine-fresh flags rate f r =
       good-iso _
       (record {
-        config-ok = config-make _ f (known rate r);
+        config-ok = config-make _ (raw-flags flags f) (known rate r);
         one = none;
         two = none;
         talks-are = refl;
@@ -399,6 +401,7 @@ module _ (rates : List ℕ) (known : Known rates) (now : ℕ) (h : now < 2 ^ 32)
         queue-ok = nil-ok mostHeard (heardCell flags);
         last-ok = last-make 0x00 (unfold member isoCodes in tt);
         linked-ok = record { apart = tt; one = tt; owner = tt; first = λ t. absurd t; second = λ t. absurd t };
+        no-listener = plain-silent flags f;
       })
 
   fine-connect : (c : Iso) → FineIso c → (l p f r : ℕ) → Left (onIsoConnect rates c l p f r)

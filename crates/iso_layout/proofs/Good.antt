@@ -15,6 +15,7 @@ use Rattle.codec.proofs.Many.{many-count, many-each, many-make}
 use Rattle.machine.specs.Filter.{Slots, anySlot}
 use Rattle.iso.specs.Limits.{mostTalks, mostMessages, mostHeard}
 use Rattle.iso.specs.Iso.{Transfer, Talk, Owner, nobody, message, transferAt, Flight, OpenIso, Iso, shut, ready, turned, knows, transmitting, airborne, airborneAt, ownerIn, flightIn}
+use Rattle.machine.specs.Channel.{listens}
 use Rattle.layout.specs.Memory.{config}
 use Rattle.iso_layout.specs.Region.{messageCell, heardCell, talkCell, talksCode, ownerParts, flightCode, heardPart, isoLastPart, isoRest, transmitsIn, knowsOther, ownerFits, fliesIn, ownedBy, flightFits, linkedTalks, linked, readyPart, isoRegion}
 use Rattle.iso_layout.proofs.Held.{TalkOk, talk-make, talk-sound}
@@ -93,6 +94,7 @@ pub record GoodIso (o : OpenIso) : Type 0 where
   pub queue-ok : T (upTo mostHeard (heardCell (fli o)) .ok (o .receiving .queue))
   pub last-ok : T (isoLastPart .ok (o .last))
   pub linked-ok : Linked one two (o .flight)
+  pub no-listener : T (not (listens (fli o)))
 
 pair : (ts : Slots Talk) → length ts ≡ mostTalks → (P : Slots Talk → Type 0) → ((a b : Option Talk) → P (a ∷ b ∷ [])) → P ts
 pair [] h P f = absurd (omega arith)
@@ -119,7 +121,7 @@ good-iso o g =
     let ts : T (many mostTalks (slot (talkCell (fli o))) .ok (o .talks)) = unfold talksCode in good-talks o g in
     let k : T (linkedTalks (o .talks) (o .flight)) =
     subst (λ (x : Slots Talk). T (linkedTalks x (o .flight))) (sym (g .talks-are)) (linked-make (g .one) (g .two) (o .flight) (g .linked-ok)) in
-    search (join, mark-ok, g .config-ok, g .written-ok, g .flight-ok, g .queue-ok, g .last-ok) depth 10
+    search (join, mark-ok, g .no-listener, g .config-ok, g .written-ok, g .flight-ok, g .queue-ok, g .last-ok) depth 10
 
 pub iso-good : (o : OpenIso) → FineIso (ready o) → GoodIso o
 unfolding isoRegion readyPart isoRest heardPart talksCode linked via slot such both bothOn
@@ -130,7 +132,8 @@ iso-good o t =
     let flight-is : T (slot (flightCode (fli o)) .ok (o .flight)) = search (left, right) depth 9 in
     let queue-is : T (upTo mostHeard (heardCell (fli o)) .ok (o .receiving .queue)) = search (left, right) depth 9 in
     let last-is : T (isoLastPart .ok (o .last)) = search (left, right) depth 9 in
-    let k : T (linkedTalks (o .talks) (o .flight)) = search right in
+    let k : T (linkedTalks (o .talks) (o .flight)) = search (left, right) in
+    let quiet : T (not (listens (fli o))) = search right in
     pair (o .talks) (many-count mostTalks (slot (talkCell (fli o))) (o .talks) ts) (λ (x : Slots Talk). o .talks ≡ x → GoodIso o)
     (λ a b e.
     let all-ok : T (all (slot (talkCell (fli o)) .ok) (a ∷ b ∷ [])) = subst (λ (x : Slots Talk). T (all (slot (talkCell (fli o)) .ok) x)) e (many-each mostTalks (slot (talkCell (fli o))) (o .talks) ts) in
@@ -146,6 +149,7 @@ iso-good o t =
       queue-ok = queue-is;
       last-ok = last-is;
       linked-ok = linked-sound a b (o .flight) (subst (λ (x : Slots Talk). T (linkedTalks x (o .flight))) e k);
+      no-listener = quiet;
     })
     refl
 

@@ -15,7 +15,7 @@ use Rattle.iso.specs.Limits.{mostTalks, mostMessages, mostHeard, isoData}
 use Rattle.iso.specs.Iso.{OpenIso, ready, isoCodes}
 use Rattle.iso_layout.specs.Sizes.{isoRegionSize}
 use Rattle.iso_layout.specs.Region.{messageCell, heardCell, talkCell, talksCode, flightCode, isoRegion}
-use Rattle.layout.proofs.Held.{config-flags, config-rate}
+use Rattle.layout.proofs.Held.{config-flags, config-rate, plain-flags}
 use Rattle.layout.proofs.Limits.{If, each-of, if-taken}
 use Rattle.iso_layout.proofs.Sizes.{isoRegion-size}
 use Rattle.iso_layout.proofs.Lawful.{isoRegion-lawful}
@@ -42,7 +42,7 @@ good-limits o g =
     let k : ℕ = fli o in
     let ts = good-talks o g in
     record {
-      flags = config-flags (o .config) (g .config-ok);
+      flags = plain-flags k (config-flags (o .config) (g .config-ok)) (g .no-listener);
       rate = config-rate (o .config) (g .config-ok);
       two-talks = many-count mostTalks (slot (talkCell k)) (o .talks) ts;
       each-talk = each-of _ _ (if-taken (slot (talkCell k) .ok) (TalkOk k) (talk-sound k)) (o .talks) (many-each mostTalks (slot (talkCell k)) (o .talks) ts);

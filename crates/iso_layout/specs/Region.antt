@@ -11,7 +11,7 @@ use Rattle.codec.specs.Code.{Code, byte, word32, both, bothOn, via, such, mark,
 use Rattle.machine.specs.Limits.{mostData}
 use Rattle.machine.specs.Message.{takes, idLimit, Rec}
 use Rattle.machine.specs.Filter.{Slots, anySlot}
-use Rattle.machine.specs.Channel.{Config, Receiving}
+use Rattle.machine.specs.Channel.{Config, Receiving, listens}
 use Rattle.layout.specs.Memory.{config}
 use Rattle.iso.specs.Limits.{mostTalks, mostMessages, mostHeard, idSize, leastMessage, mostPayload, leastSegmented, inFirst, inNext, second, longestGap}
 use Rattle.iso.specs.Iso.{Reception, Stage, opens, awaits, flies, sends, Transmission, Transfer, idle, refuses, receives, transmits, Talk, Owner, nobody, message, transferAt, Flight, OpenIso, Iso, shut, ready, knows, transmitting, airborneAt, isoCodes}
@@ -208,8 +208,9 @@ linkedTalks ts f =
     && (not (fliesIn (getD ts 0 none)) || ownedBy 0 f)
     && (not (fliesIn (getD ts 1 none)) || ownedBy 1 f)
 
+-- and no such channel is a listener
 unfoldable pub linked : OpenIso → Bool
-linked o = linkedTalks (o .talks) (o .flight)
+linked o = linkedTalks (o .talks) (o .flight) && not (listens (o .config .flags))
 
 unfoldable pub readyPart : Code OpenIso
 readyPart = such linked (via readyParts readyBack (bothOn (λ c. c .flags) config isoRest))

@@ -54,6 +54,7 @@ chosen-good o g (some x) k =
       queue-ok = g .queue-ok;
       last-ok = g .last-ok;
       linked-ok = k .linked-ok;
+      no-listener = g .no-listener;
     }
 
 module _ (r : List ℕ) (f : IsoOpened r) (x : Option Chosen) (k : MayChoose (fli (readyOf r)) x) (u : List ℕ) (e : u ≡ isoRegion .put (ready (taking (readyOf r) x))) where

@@ -3,7 +3,7 @@
 use mathlib.Core.Path.{_≡_, refl, sym, ap, _∙_, subst}
 use Prim.Native.Nat.{ℕ, _+_}
 use mathlib.Core.Logic.{_⊎_, inl, inr}
-use mathlib.Core.Bool.{Bool, true, false, _&&_, _||_}
+use mathlib.Core.Bool.{Bool, true, false, not, _&&_, _||_}
 use mathlib.Core.Option.{Option, none, some}
 use mathlib.Core.List.{List}
 use lib.ListN.{length, getD, take, drop}
@@ -23,8 +23,8 @@ use Rattle.link_layout.proofs.Bytes.{absent-bytes, state-byte}
 use Rattle.link_layout.proofs.Talking.{Held, absent-held}
 use Rattle.link_layout.proofs.Moves.{Offered, May, offer-held}
 use Rattle.machine.specs.Message.{takes}
-use Rattle.machine.specs.Channel.{Open, opened, withLink}
-use Rattle.layout.specs.Memory.{linkTakes, linkPart, region}
+use Rattle.machine.specs.Channel.{Open, opened, listens, withLink}
+use Rattle.layout.specs.Memory.{linksOn, linkTakes, linkPart, region}
 use Rattle.layout.specs.Promise.{Opened}
 use Rattle.layout.specs.Sizes.{linkAt}
 use Rattle.layout.proofs.Sizes.{connection-size}
@@ -48,8 +48,8 @@ module _ (flags : ℕ) where
   unfolding linkPart such
   link-taken c t = right (connectionPart .ok c) (linkTakes flags c) t
 
-  -- it is absent, or the channel takes narrow frames
-  pub absent-or-narrow : (c : Connection) → T (linkTakes flags c) → (c ≡ absent) ⊎ T (takes flags false)
+  -- it is absent, or the channel takes narrow frames and is no listener
+  pub absent-or-narrow : (c : Connection) → T (linkTakes flags c) → (c ≡ absent) ⊎ T (linksOn flags)
   unfolding linkTakes stateOf
   absent-or-narrow absent t = inl refl
   absent-or-narrow (opening a n s) t = inr t
@@ -57,10 +57,22 @@ module _ (flags : ℕ) where
   absent-or-narrow (standing a tx l) t = inr t
   absent-or-narrow (leaving tx e) t = inr t
 
-  -- any connection on a channel that takes narrow frames; none on any
-  pub narrow-takes : (c : Connection) → T (takes flags false) → T (linkTakes flags c)
+  pub narrow-of : T (linksOn flags) → T (takes flags false)
+  unfolding linksOn
+  narrow-of t = left (takes flags false) (not (listens flags)) t
+
+  pub speaks-of : T (linksOn flags) → T (not (listens flags))
+  unfolding linksOn
+  speaks-of t = right (takes flags false) (not (listens flags)) t
+
+  pub links-on : T (takes flags false) → T (not (listens flags)) → T (linksOn flags)
+  unfolding linksOn
+  links-on n s = join (takes flags false) (not (listens flags)) n s
+
+  -- any connection on such a channel; none on any
+  pub narrow-takes : (c : Connection) → T (linksOn flags) → T (linkTakes flags c)
   unfolding linkTakes
-  narrow-takes c t = or-right (eqb (stateOf c) 0) (takes flags false) t
+  narrow-takes c t = or-right (eqb (stateOf c) 0) (linksOn flags) t
 
   pub absent-link : T (linkPart flags .ok absent)
   absent-link = link-make absent absent-held (unfold linkTakes stateOf in tt)
@@ -69,23 +81,23 @@ module _ (flags : ℕ) where
   pub link-moved : (f : Connection → Connection) → f absent ≡ absent → ((c : Connection) → Held c → Held (f c)) → (c : Connection) → T (linkPart flags .ok c) → T (linkPart flags .ok (f c))
   link-moved f e keeps c t = by (absent-or-narrow c (link-taken c t))
     where
-      by : (c ≡ absent) ⊎ T (takes flags false) → T (linkPart flags .ok (f c))
+      by : (c ≡ absent) ⊎ T (linksOn flags) → T (linkPart flags .ok (f c))
       by (inl z) = subst (λ (d : Connection). T (linkPart flags .ok d)) (sym (ap f z ∙ e)) absent-link
       by (inr w) = link-make (f c) (keeps c (link-held c t)) (narrow-takes (f c) w)
 
-  -- what it offers is narrow, and so is the channel
+  -- what it offers is narrow, and so is the channel, which is no listener
   abbrev pub MayGo : Option Offer → Type 0
   MayGo none = Unit {0}
-  MayGo (some x) = Offered x × T (takes flags false)
+  MayGo (some x) = Offered x × T (linksOn flags)
 
   pub link-offers : (c : Connection) → T (linkPart flags .ok c) → MayGo (offer c)
   link-offers c t = by (absent-or-narrow c (link-taken c t))
     where
-      both : (x : Option Offer) → May x → T (takes flags false) → MayGo x
+      both : (x : Option Offer) → May x → T (linksOn flags) → MayGo x
       both none m w = tt
       both (some x) m w = (m, w)
 
-      by : (c ≡ absent) ⊎ T (takes flags false) → MayGo (offer c)
+      by : (c ≡ absent) ⊎ T (linksOn flags) → MayGo (offer c)
       by (inl z) = subst (λ (d : Connection). MayGo (offer d)) (sym z) (unfold offer in tt)
       by (inr w) = both (offer c) (offer-held c (link-held c t)) w
 
@@ -100,14 +112,14 @@ pub state-at : (m : List ℕ) → LinkPart m → stateOf (connectionPart .get m)
 state-at m p =
     sym (state-byte (connectionPart .get m)) ∙ ap (λ (x : List ℕ). getD x 0 0) (connection-lawful .put-get m (p .long ∙ sym connection-size) (p .valid))
 
--- the part is valid where the connection's bytes are, and its state is 0 or the channel takes narrow frames
-pub link-valid : (flags : ℕ) (m : List ℕ) → length m ≡ linkSize → linkPart flags .valid m ≡ (connectionPart .valid m && (eqb (getD m 0 0) 0 || takes flags false))
+-- the part is valid where the connection's bytes are, and its state is 0 or the channel may have a connection
+pub link-valid : (flags : ℕ) (m : List ℕ) → length m ≡ linkSize → linkPart flags .valid m ≡ (connectionPart .valid m && (eqb (getD m 0 0) 0 || linksOn flags))
 unfolding linkPart such linkTakes
 link-valid flags m l = by (connectionPart .valid m) refl
   where
-    by : (b : Bool) → connectionPart .valid m ≡ b → (b && (eqb (stateOf (connectionPart .get m)) 0 || takes flags false)) ≡ (b && (eqb (getD m 0 0) 0 || takes flags false))
+    by : (b : Bool) → connectionPart .valid m ≡ b → (b && (eqb (stateOf (connectionPart .get m)) 0 || linksOn flags)) ≡ (b && (eqb (getD m 0 0) 0 || linksOn flags))
     by false e = refl
-    by true e = ap (λ (k : ℕ). eqb k 0 || takes flags false) (state-at m (record { long = l; valid = true-T (connectionPart .valid m) e }))
+    by true e = ap (λ (k : ℕ). eqb k 0 || linksOn flags) (state-at m (record { long = l; valid = true-T (connectionPart .valid m) e }))
 
 -- ---- in the region of an open channel
 module _ (r : List ℕ) (f : Opened r) where
@@ -123,8 +135,8 @@ module _ (r : List ℕ) (f : Opened r) where
   pub link-there : LinkPart (take linkSize (drop linkAt r))
   link-there = record { long = link-bytes .long; valid = link-bytes .valid }
 
-  -- its connection is absent, or it takes narrow frames
-  pub link-narrow : (openOf r .link ≡ absent) ⊎ T (takes (fl (openOf r)) false)
+  -- its connection is absent, or it may have one
+  pub link-narrow : (openOf r .link ≡ absent) ⊎ T (linksOn (fl (openOf r)))
   link-narrow = absent-or-narrow (fl (openOf r)) (openOf r .link) (link-taken (fl (openOf r)) (openOf r .link) (good (openOf r) (fine r f) .link-ok))
 
   -- a move of the connection on its bytes: the region is that of the channel with the connection moved, and is that of an open channel again

@@ -1,11 +1,12 @@
 -- Saved set-ups and what a region can hold: a channel's set-up is good, and a good set-up can be loaded. Assumes nothing.
 use Prim.Native.Nat.{ℕ, _+_, _-_, _≤_, _<_}
 use mathlib.Core.Path.{_≡_, refl, sym, ap, _∙_, subst}
-use mathlib.Core.Bool.{Bool, true, false}
+use mathlib.Core.Bool.{Bool, true, false, not}
 use mathlib.Core.Option.{Option, none, some}
 use mathlib.Core.List.{List, [], _∷_, _++_, map}
+use mathlib.Core.Logic.{inl, inr}
 use native.Mathlib.Omega.{arith}
-use lib.Dec.{T, ltb→lt}
+use lib.Dec.{T, ltb→lt, leb→le}
 use lib.ListN.{length, take, drop, getD, length-map, length-drop, take-append-drop}
 use lib.Seq.{length-take-le}
 use Rattle.codec.specs.Plain.{all, isByte, zeros, allZero, member}
@@ -19,9 +20,9 @@ use Rattle.machine.specs.Codes.{threeRates}
 use Rattle.machine.specs.Message.{bit, widthFlag, Rec, twelve}
 use Rattle.machine.specs.Filter.{Slots, Filter}
 use Rattle.machine.specs.Store.{Setup}
-use Rattle.machine.specs.Channel.{Open, Periodic, opened, isFlags, savedOf, setupOf, onSave, startsAnew, loaded}
+use Rattle.machine.specs.Channel.{Open, Periodic, opened, isRawFlags, listens, savedOf, setupOf, onSave, startsAnew, loaded}
 use Rattle.setups.specs.Good.{Holds, Every, Row, GoodFilter, cleanRec, GoodPeriodic, GoodSetup}
-use Rattle.setups.proofs.Length.{save-fits}
+use Rattle.setups.proofs.Length.{ShortFlags, save-fits}
 use Rattle.layout.specs.Record.{row, outCell}
 use Rattle.layout.proofs.Held.{config-flags, config-rate, config-make, Stored, out-make, out-sound, filterPlace, filters-rows, no-filter, filter-make, filter-sound, periodicPlace, periodics-rows, no-periodic, periodic-sound, periodic-make}
 use Rattle.layout.proofs.Good.{Fine, fl, Good, good-ok}
@@ -72,17 +73,17 @@ place-filter flags f t =
 
 -- ---- a periodic
 
-clean-cell : (flags : ℕ) (wide : Bool) (b : List ℕ) → Stored flags wide b → T (outCell flags .ok (cleanRec wide b))
+clean-cell : (flags : ℕ) (wide : Bool) (b : List ℕ) → T (not (listens flags)) → Stored flags wide b → T (outCell flags .ok (cleanRec wide b))
 unfolding widthFlag bit member
-clean-cell flags true b s = out-make flags _ (record { no-status = refl; width-flag = tt; no-stamp = refl; stored = s })
-clean-cell flags false b s = out-make flags _ (record { no-status = refl; width-flag = tt; no-stamp = refl; stored = s })
+clean-cell flags true b may s = out-make flags _ (record { no-status = refl; width-flag = tt; no-stamp = refl; speaks = may; stored = s })
+clean-cell flags false b may s = out-make flags _ (record { no-status = refl; width-flag = tt; no-stamp = refl; speaks = may; stored = s })
 
 pub periodic-place : (flags : ℕ) (p : Rec × ℕ) → GoodPeriodic flags p → T (periodicPlace flags (startsAnew (some p)))
 unfolding startsAnew
 periodic-place flags p g =
     let q = g .message in
     let lo = g .low in
-    let cell = clean-cell flags (q .wide) (p .0 .bytes) (record { low = q .low; high = q .high; bytes = q .all-bytes; identifier = q .identifier; width = q .width }) in
+    let cell = clean-cell flags (q .wide) (p .0 .bytes) (g .speaks) (record { low = q .low; high = q .high; bytes = q .all-bytes; identifier = q .identifier; width = q .width }) in
     periodic-make flags _
     (record { message-ok = subst (λ (r : Rec). T (outCell flags .ok r)) (sym (q .is)) cell; low = lo; high = g .high; phase-below = omega arith })
 
@@ -96,6 +97,7 @@ place-periodic flags p t =
     let r : Rec = p .message in
     let q = out-sound flags r (s .message-ok) in
     record {
+      speaks = q .speaks;
       message =
           record {
             wide = bit 0x100 (r .tx);
@@ -167,12 +169,12 @@ fine-loaded rates known o g s h e =
 
 -- THE SET-UP OF A CHANNEL THAT A REGION HOLDS IS GOOD, while set takes its rate
 pub good-setup : (rates : List ℕ) (o : Open) → Good o → T (member (o .config .rate) rates) → GoodSetup rates (setupOf o)
-unfolding setupOf isFlags threeRates
+unfolding setupOf isRawFlags threeRates
 good-setup rates o g t =
     let k : ℕ = fl o in
     let ps : Slots Periodic = o .sending .periodics in
     record {
-      flags-small = of-member (λ (n : ℕ). n ≤ largest) _ (omega arith, (omega arith, (omega arith, (omega arith, tt)))) k (config-flags (o .config) (g .config-ok));
+      flags-small = of-member (λ (n : ℕ). n ≤ largest) _ (search (leb→le, tt) depth 9) k (config-flags (o .config) (g .config-ok));
       ten-filters = filters-rows k .count (o .filters) (g .filters-ok);
       each-filter = place-every (GoodFilter k) (filterPlace k) (place-filter k) (o .filters) (filters-rows k .each (o .filters) (g .filters-ok));
       ten-periodics = length-map ps savedOf ∙ periodics-rows k .count ps (g .periodics-ok);
@@ -184,9 +186,9 @@ good-setup rates o g t =
 
 -- 1,149 BYTES ALWAYS SUFFICE to save it
 pub good-fits : (o : Open) → Good o → (b : List ℕ) → 1149 ≤ length b → onSave o b .1 .code ≡ 0x00
-unfolding isFlags threeRates
+unfolding isRawFlags listens bit threeRates
 good-fits o g b h =
     let r : T (member (o .config .rate) threeRates) = config-rate (o .config) (g .config-ok) in
     save-fits threeRates o b (good-setup threeRates o g r)
-    (of-member (λ (n : ℕ). n < 16384) _ (omega arith, (omega arith, (omega arith, (omega arith, tt)))) (fl o) (config-flags (o .config) (g .config-ok)))
+    (of-member ShortFlags _ (inl (omega arith), (inl (omega arith), (inl (omega arith), (inl (omega arith), (inr tt, (inr tt, (inr tt, (inr tt, tt)))))))) (fl o) (config-flags (o .config) (g .config-ok)))
     (of-member (λ (n : ℕ). n < 2097152) _ (omega arith, (omega arith, (omega arith, tt))) (o .config .rate) r) h

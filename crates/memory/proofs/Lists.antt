@@ -96,8 +96,8 @@ module _ (m : List ℕ) (v : T (valid m)) (k base : ℕ) where
     raw-over s n =
         let r : List ℕ = midOf base (base + regionSize - base) m in
         let o = raw-lent m v k base s in (
-          raw-looked m v k base s rates (setList ps) 4 0 [] (raw-region.stays r o rates (load m .clock) (setList ps) 4 0 [] (set-many rates (openOf r) ps h)) zs n,
-          raw-looked m v k base s rates (getList ps) 4 0 (flat ps) (raw-region.stays r o rates (load m .clock) (getList ps) 4 0 (flat ps) (get-many rates (openOf r) ps h)) zs n,
+          raw-looked m v k base s rates (setList ps) refl 4 0 [] (raw-region.stays r o rates (load m .clock) (setList ps) 4 0 [] (set-many rates (openOf r) ps h)) zs n,
+          raw-looked m v k base s rates (getList ps) refl 4 0 (flat ps) (raw-region.stays r o rates (load m .clock) (getList ps) 4 0 (flat ps) (get-many rates (openOf r) ps h)) zs n,
         )
 
     pub iso-over : IsoSeat m k base → zs ≡ notedIn isoLastAt base 0x04 m → Over

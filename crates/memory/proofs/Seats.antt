@@ -4,7 +4,7 @@ use mathlib.Core.Path.{_≡_, refl, sym, ap, ap₂, _∙_, subst}
 use Prim.Native.Nat.{ℕ, zero, suc, _+_, _*_, _-_, _≤_, _<_}
 use native.Mathlib.Nat.{suc-ne-zero}
 use native.Mathlib.Omega.{arith}
-use mathlib.Core.Bool.{Bool, true, false}
+use mathlib.Core.Bool.{Bool, true, false, _&&_}
 use mathlib.Core.List.{List, []}
 use lib.ListN.{length, getD, take, drop}
 use lib.Dec.{T}
@@ -13,12 +13,16 @@ use Rattle.codec.specs.Plain.{if_then_else_, within}
 use Rattle.codec.specs.Word.{wordAt}
 use Rattle.codec.proofs.Tests.{true-T}
 use Rattle.machine.specs.Limits.{lines}
-use Rattle.machine.specs.Channel.{Chan, Call, rawOnly, lent, Answer, says, onCall}
+use Rattle.machine.specs.Channel.{Chan, Open, Call, rawOnly, listens, speaksOut, muted, lent, Answer, says, onCall}
+use Rattle.machine.proofs.Refusals.{does-codes}
 use Rattle.machine.specs.Step.{call}
-use Rattle.layout.specs.Sizes.{regionSize, lastAt}
+use Rattle.layout.specs.Sizes.{regionSize, flagsAt, lastAt}
 use Rattle.layout.specs.Memory.{region}
 use Rattle.layout.specs.Promise as raw-promise
-use Rattle.layout.specs.Promise.{Result, gives, Opened, regionGives, callOutcome}
+use Rattle.layout.specs.Promise.{Result, gives, Opened, Speaker, regionGives, callOutcome}
+use Rattle.layout.proofs.Good.{fl}
+use Rattle.layout.proofs.Held.{call-small}
+use Rattle.layout.proofs.Region.{openOf, is-open, kept, word-of, flags-part}
 use Rattle.iso.specs.Iso.{Iso, onIsoCall}
 use Rattle.iso_layout.specs.Sizes.{isoRegionSize, isoLastAt}
 use Rattle.iso_layout.specs.Region.{isoRegion}
@@ -188,21 +192,54 @@ module _ (m : List ℕ) (v : T (valid m)) (k base : ℕ) where
     unfolding rawKind raws
     raw-lent = record { long = seat-long rawKind m v k base s; valid = seat-valid rawKind m v k base s; mark = seat-mark rawKind m v k base s }
 
-    pub raw-called : (rates : List ℕ) (x : Call) (c u : ℕ) (b ys zs : List ℕ) → length ys ≡ regionSize
-        → gives c u b ys ≡ callOutcome rates (load m .clock) (midOf base (base + regionSize - base) m) x
-        → zs ≡ raw-promise.notedIn base c (putMid base (base + regionSize - base) m ys) → gives c u b zs ≡ outcome rates m (call k x)
-    unfolding rawKind raws callOutcome regionGives
-    raw-called rates x c u b ys zs long r n = seat-called rawKind m v k base s rates x c u b ys zs long r (n ∙ same-note base c _) refl
+    abbrev raw-here : List ℕ
+    raw-here = midOf base (base + regionSize - base) m
+
+    -- its flags say whether it is a listener
+    flags-here : fl (openOf raw-here) ≡ wordAt flagsAt raw-here
+    flags-here = sym (word-of (flags-part raw-here raw-lent))
+
+    -- a call that a listener may do, or one on a channel that is none: what the function on the region promises is what the channel does
+    module _ (rates : List ℕ) (x : Call) (may : (speaksOut x && listens (wordAt flagsAt raw-here)) ≡ false) where
+      spoken : callOutcome rates (load m .clock) raw-here x ≡ regionGives (onCall rates (load m .clock) (region .get raw-here) x)
+      unfolding callOutcome onCall
+      spoken =
+          let o : Open = openOf raw-here in
+          let free : muted o x ≡ false = ap (λ (n : ℕ). speaksOut x && listens n) flags-here ∙ may in
+          sym (ap (λ (c : Chan). regionGives (onCall rates (load m .clock) c x)) (is-open raw-here raw-lent) ∙ rw free refl)
+
+      pub raw-called : (c u : ℕ) (b ys zs : List ℕ) → length ys ≡ regionSize → gives c u b ys ≡ callOutcome rates (load m .clock) raw-here x
+          → zs ≡ raw-promise.notedIn base c (putMid base (base + regionSize - base) m ys) → gives c u b zs ≡ outcome rates m (call k x)
+      unfolding rawKind raws regionGives
+      raw-called c u b ys zs long r n = seat-called rawKind m v k base s rates x c u b ys zs long (r ∙ spoken) (n ∙ same-note base c _) refl
+
+      pub raw-looked : (c u : ℕ) (b : List ℕ) → gives c u b raw-here ≡ callOutcome rates (load m .clock) raw-here x
+          → (zs : List ℕ) → zs ≡ raw-promise.notedIn base c m → gives c u b zs ≡ outcome rates m (call k x)
+      unfolding rawKind raws regionGives
+      raw-looked c u b e zs n = seat-looked rawKind m v k base s rates x c u b (e ∙ spoken) zs (n ∙ same-note base c m) refl
+
+    -- A LISTENER THAT IS ASKED TO SPEAK OUT says 0x01, and notes it
+    pub raw-muted : listens (wordAt flagsAt raw-here) ≡ true → (rates : List ℕ) (x : Call) → speaksOut x ≡ true → (zs : List ℕ) → zs ≡ raw-promise.notedIn base 0x01 m
+        → gives 0x01 0 (lent x) zs ≡ outcome rates m (call k x)
+    unfolding rawKind raws regionGives onCall says
+    raw-muted h rates x out zs n =
+        let o : Open = openOf raw-here in
+        let mute : muted o x ≡ true = ap₂ (λ (a b : Bool). a && b) out (ap listens flags-here ∙ h) in
+        let is : gives 0x01 0 (lent x) raw-here ≡ regionGives (onCall rates (load m .clock) (region .get raw-here) x) =
+        ap (λ (r : List ℕ). gives 0x01 0 (lent x) r) (sym (kept raw-here raw-lent))
+        ∙ sym (ap (λ (c : Chan). regionGives (onCall rates (load m .clock) c x)) (is-open raw-here raw-lent) ∙ rw mute refl) in
+        seat-looked rawKind m v k base s rates x 0x01 0 (lent x) is zs (n ∙ same-note base 0x01 m) refl
+
+    -- a channel that is no listener, as functions that queue something to send need it
+    pub raw-speaker : listens (wordAt flagsAt raw-here) ≡ false → Speaker raw-here
+    raw-speaker h = record { is = raw-lent; speaks = h }
 
     pub raw-noted : (rates : List ℕ) (x : Call) (c u : ℕ) (b ys : List ℕ) → gives c u b ys ≡ callOutcome rates (load m .clock) (midOf base (base + regionSize - base) m) x
         → length ys ≡ regionSize → (base + regionSize ≤ length (putMid base (base + regionSize - base) m ys)) × (c < 256)
-    unfolding rawKind raws callOutcome regionGives
-    raw-noted = seat-noted rawKind m v k base s
-
-    pub raw-looked : (rates : List ℕ) (x : Call) (c u : ℕ) (b : List ℕ) → gives c u b (midOf base (base + regionSize - base) m) ≡ callOutcome rates (load m .clock) (midOf base (base + regionSize - base) m) x
-        → (zs : List ℕ) → zs ≡ raw-promise.notedIn base c m → gives c u b zs ≡ outcome rates m (call k x)
-    unfolding rawKind raws callOutcome regionGives
-    raw-looked rates x c u b e zs n = seat-looked rawKind m v k base s rates x c u b e zs (n ∙ same-note base c m) refl
+    unfolding callOutcome regionGives
+    raw-noted rates x c u b ys r long =
+        let same : length (putMid base (base + regionSize - base) m ys) ≡ length m = same-len-mid base (base + regionSize - base) m ys (long ∙ sym (raw-lent .long)) in
+        (omega (arith, raw-ends), subst (λ (n : ℕ). n < 256) (sym (ap (λ (z : Result). z .code) r)) (call-small _ (does-codes rates (load m .clock) (openOf raw-here) x)))
 
   module _ (s : IsoSeat m k base) where
     pub iso-ends : base + isoRegionSize ≤ length m

@@ -1,23 +1,24 @@
 -- A store is at most 1,149 bytes long. Assumes nothing.
 use Prim.Native.Nat.{ℕ, suc, _+_, _-_, _*_, _/_, _≤_, _<_}
-use mathlib.Core.Path.{_≡_, ap, _∙_}
-use mathlib.Core.Bool.{Bool, true, false}
+use mathlib.Core.Path.{_≡_, refl, ap, _∙_}
+use mathlib.Core.Bool.{Bool, true, false, not}
 use mathlib.Core.List.{List, [], _∷_, _++_}
-use mathlib.Core.Logic.{⊎-elim}
+use mathlib.Core.Logic.{_⊎_, inl, inr, ⊎-elim}
 use mathlib.Core.Option.{none, some}
 use native.Mathlib.Nat.{suc-mul}
 use native.Mathlib.Omega.{arith}
 use borrow.Author.Tests.{le-ltb}
+use lib.Dec.{T}
 use lib.ListN.{length, take, length-append}
 use Rattle.codec.specs.Plain.{if_then_else_}
 use Rattle.number.specs.Number.{groups, bytesOf}
-use Rattle.number.proofs.Laws.{groups-one, groups-more}
+use Rattle.number.proofs.Laws.{groups-one, groups-more, written-short}
 use Rattle.number.proofs.Groups.{below}
 use Rattle.machine.specs.Codes.{codeOf}
 use Rattle.machine.specs.Message.{shown, Rec}
 use Rattle.machine.specs.Filter.{Slots, Filter, typeOf}
 use Rattle.machine.specs.Store.{Setup, numbered, eachBytes, slotsBytes, rowRecord, filterBytes, periodicBytes, bodyBytes, storeBytes}
-use Rattle.machine.specs.Channel.{Open, unless, says, setupOf, onSave}
+use Rattle.machine.specs.Channel.{Open, listens, unless, says, setupOf, onSave}
 use Rattle.setups.specs.Good.{Holds, Every, cleanRec, GoodFilter, GoodPeriodic, GoodSetup}
 use Rattle.setups.specs.Saved.{Rising}
 use Rattle.setups.proofs.Places.{numbered-rising, numbered-each}
@@ -123,8 +124,38 @@ loop-1 : (l : Bool) → length (bytesOf (if l then 1 else 0)) ≤ 1
 loop-1 true = number-1 1 (omega arith)
 loop-1 false = number-1 0 (omega arith)
 
+-- a listener has none
+no-periodics : (flags : ℕ) → T (listens flags) → (s : Slots (Rec × ℕ)) (k : ℕ) → Every (Holds (GoodPeriodic flags)) s → numbered k s ≡ []
+unfolding numbered
+no-periodics flags t [] k h = refl
+no-periodics flags t (none ∷ s) k h = no-periodics flags t s (suc k) (h .1)
+no-periodics flags t (some p ∷ s) k h = absurd (never (listens flags) t (h .0 .speaks))
+  where
+    never : (b : Bool) → T b → T (not b) → ⊥
+    never true t n = n
+    never false t n = t
+
+periodics-1 : (flags : ℕ) → T (listens flags) → (s : Slots (Rec × ℕ)) → Every (Holds (GoodPeriodic flags)) s → length (slotsBytes periodicBytes s) ≤ 1
+unfolding slotsBytes eachBytes bytesOf groups
+periodics-1 flags t s h = rw (no-periodics flags t s 1 h) (number-1 0 (omega arith))
+
+-- flags as a connect takes them: a listener's number is longer
+abbrev pub ShortFlags : ℕ → Type 0
+ShortFlags flags = (flags < 16384) ⊎ T (listens flags)
+
+flags-and-periodics : (s : Setup) → ShortFlags (s .flags) → length (s .periodics) ≡ 10 → Every (Holds (GoodPeriodic (s .flags))) (s .periodics)
+    → length (bytesOf (s .flags)) + length (slotsBytes periodicBytes (s .periodics)) ≤ 403
+flags-and-periodics s (inl h) l e =
+    let a = number-2 (s .flags) h in
+    let b = periodics-401 (s .flags) (s .periodics) l e in
+    omega arith
+flags-and-periodics s (inr t) l e =
+    let a = written-short (s .flags) .1 in
+    let b = periodics-1 (s .flags) t (s .periodics) e in
+    omega arith
+
 -- 1,149 BYTES ALWAYS SUFFICE, for flags and rates as 01 has them
-pub store-short : (rates : List ℕ) (s : Setup) → GoodSetup rates s → s .flags < 16384 → s .rate < 2097152 → length (storeBytes s) ≤ 1149
+pub store-short : (rates : List ℕ) (s : Setup) → GoodSetup rates s → ShortFlags (s .flags) → s .rate < 2097152 → length (storeBytes s) ≤ 1149
 unfolding storeBytes bodyBytes
 store-short rates s g hf hr =
     let w1 : List ℕ = slotsBytes filterBytes (s .filters) in
@@ -132,9 +163,8 @@ store-short rates s g hf hr =
     let w3 : List ℕ = bytesOf (s .rate) in
     let w4 : List ℕ = bytesOf (if s .loopback then 1 else 0) in
     let b0 : length (bytesOf 2) ≤ 1 = number-1 2 (omega arith) in
-    let b1 : length (bytesOf (s .flags)) ≤ 2 = number-2 (s .flags) hf in
+    let b1 = flags-and-periodics s hf (g .ten-periodics) (g .each-periodic) in
     let b2 : length w1 ≤ 741 = filters-741 (s .flags) (s .filters) (g .ten-filters) (g .each-filter) in
-    let b3 : length w2 ≤ 401 = periodics-401 (s .flags) (s .periodics) (g .ten-periodics) (g .each-periodic) in
     let b4 : length w3 ≤ 3 = number-3 (s .rate) hr in
     let b5 : length w4 ≤ 1 = loop-1 (s .loopback) in
     omega (
@@ -146,7 +176,7 @@ store-short rates s g hf hr =
       length-append w3 w4,
     )
 
-pub save-fits : (rates : List ℕ) (o : Open) (b : List ℕ) → GoodSetup rates (setupOf o) → o .config .flags < 16384 → o .config .rate < 2097152 → 1149 ≤ length b → onSave o b .1 .code ≡ 0x00
+pub save-fits : (rates : List ℕ) (o : Open) (b : List ℕ) → GoodSetup rates (setupOf o) → ShortFlags (o .config .flags) → o .config .rate < 2097152 → 1149 ≤ length b → onSave o b .1 .code ≡ 0x00
 unfolding onSave codeOf unless says setupOf
 save-fits rates o b g hf hr h =
     let l = store-short rates (setupOf o) g hf hr in

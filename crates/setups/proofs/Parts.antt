@@ -9,7 +9,7 @@ use lib.Dec.{T, eqb, ltb, eqb→eq, eqb-refl, nltb→le}
 use lib.ListN.{length, take, drop, length-drop}
 use lib.Seq.{take-at, length-take-le}
 use Rattle.codec.specs.Plain.{within, zeros, all, isByte}
-use Rattle.codec.proofs.Tests.{join, within-low, within-high, between, true-T}
+use Rattle.codec.proofs.Tests.{join, within-low, within-high, between, true-T, left, right}
 use Rattle.codec.proofs.Lists.{all-drop, all-take, bytes-of}
 use Rattle.number.specs.Number.{largest, bytesOf}
 use Rattle.number.specs.Laws.{Bytes}
@@ -18,7 +18,7 @@ use Rattle.machine.specs.Codes.{codeOf}
 use Rattle.machine.specs.Message.{bit, takes, idOf, idLimit, Rec, twelve, shown, protocolOf, txFlagsOf, sizeOf, wideOf, dataOf, messageCode, clean}
 use Rattle.machine.specs.Filter.{Filter, noneYet, free, typeOf}
 use Rattle.machine.specs.Store.{rowRecord, filterBytes, periodicBytes, isClean, cleanIn}
-use Rattle.machine.specs.Channel.{shorter, filterCode, filterOf, periodicCode, filterIn, periodicIn, blank}
+use Rattle.machine.specs.Channel.{shorter, filterCode, filterOf, periodicCode, filterIn, periodicIn, blank, listens}
 use Rattle.machine.proofs.Tables.{Failed, failed, own-code, yes}
 use Rattle.setups.specs.Good.{Row, GoodFilter, cleanRec, GoodPeriodic}
 use Rattle.setups.proofs.Reading.{Back, then-back, last-back, only-back, number-back, bytes-back, where-passes, split, Stands, chain, where-there, only-there, number-there, bytes-there}
@@ -310,11 +310,11 @@ periodic-back flags p g =
     subst (λ (w : List ℕ). Back (periodicIn flags) p (w ++ bytesOf (p .1))) (sym readWhole)
     (then-back _ m p m (bytesOf (p .1)) (clean-in-back (q .wide) b (q .high))
     (last-back _ (p .1) p (bytesOf (p .1)) (number-back (p .1) (omega arith))
-    (λ s at. where-passes (eqb (periodicCode (blank flags 0) m (p .1)) 0) (clean m, p .1) (eq-T (periodicCode (blank flags 0) m (p .1)) 0 good) s at ∙ ap (λ (r : Rec). some ((r, p .1), at)) is)))
+    (λ s at. where-passes (not (listens flags) && eqb (periodicCode (blank flags 0) m (p .1)) 0) (clean m, p .1) (join (not (listens flags)) _ (g .speaks) (eq-T (periodicCode (blank flags 0) m (p .1)) 0 good)) s at ∙ ap (λ (r : Rec). some ((r, p .1), at)) is)))
 
-pub periodic-good : (flags : ℕ) (m : List ℕ) (i : ℕ) → length m ≡ 36 → T (all isByte m) → periodicCode (blank flags 0) m i ≡ 0 → GoodPeriodic flags (clean m, i)
+pub periodic-good : (flags : ℕ) (m : List ℕ) (i : ℕ) → length m ≡ 36 → T (all isByte m) → T (not (listens flags)) → periodicCode (blank flags 0) m i ≡ 0 → GoodPeriodic flags (clean m, i)
 unfolding periodicCode messageCode noneYet free clean
-periodic-good flags m i l b e =
+periodic-good flags m i l b may e =
     let k : ℕ = messageCode flags m in
     let f = failed _ (join (not (eqb k 0 && not (eqb k 0))) _ (own-code k) tt) e in
     let wait : T (within 5 65535 i) = yes (within 5 65535 i) (f .1 .0) in
@@ -326,6 +326,7 @@ periodic-good flags m i l b e =
     let high : sizeOf m ≤ 12 = within-high 4 12 (sizeOf m) size in
     let d : length (dataOf m) ≡ sizeOf m = data-long m l high in
     record {
+      speaks = may;
       message = record { wide = wideOf m; is = refl; all-bytes = data-bytes m b; low = omega arith; high = omega arith; identifier = id; width = width };
       low = within-low 5 65535 i wait;
       high = within-high 5 65535 i wait;
@@ -340,8 +341,8 @@ periodic-there s b flags at p n e =
     let i = y .what in
     let c = clean-in-there s b at m (x .place) (x .first) in
     let k = number-there s (x .place) i (y .place) b (y .first) in
-    let d = where-there (eqb (periodicCode (blank flags 0) m i) 0) (clean m, i) p s (y .place) n (y .rest) in
-    let g = periodic-good flags m i (c .long) (c .all-bytes) (eqb→eq _ 0 (d .0)) in
+    let d = where-there (not (listens flags) && eqb (periodicCode (blank flags 0) m i) 0) (clean m, i) p s (y .place) n (y .rest) in
+    let g = periodic-good flags m i (c .long) (c .all-bytes) (left (not (listens flags)) _ (d .0)) (eqb→eq _ 0 (right (not (listens flags)) _ (d .0))) in
     let stands : Stands s at (shown (clean m) ++ bytesOf i) (y .place) =
     subst (λ (w : List ℕ). Stands s at (w ++ bytesOf i) (y .place)) (c .is) (chain s at (x .place) (y .place) m (bytesOf i) (c .stands) (k .0)) in
     subst (λ (v : Rec × ℕ). Here periodicBytes (GoodPeriodic flags) s at v n) (d .1 .0)

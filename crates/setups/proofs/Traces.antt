@@ -15,7 +15,7 @@ use Rattle.machine.specs.Store.{readWhole, Setup, numbered, eachBytes, slotsByt
 use Rattle.machine.specs.Codes.{codeOf, threeRates, twoRates}
 use Rattle.machine.specs.Message.{bit, widthFlag, idBytes, idOf, idLimit, takes, twelve, shown, protocolOf, txFlagsOf, sizeOf, wideOf, dataOf, messageCode, clean}
 use Rattle.machine.specs.Filter.{noneYet, free}
-use Rattle.machine.specs.Channel.{shorter, filterCode, filterOf, periodicCode, filterIn, periodicIn, bodyIn, versionIn, storeIn}
+use Rattle.machine.specs.Channel.{shorter, filterCode, filterOf, periodicCode, filterIn, periodicIn, bodyIn, versionIn, storeIn, listens}
 use Rattle.machine.proofs.Traces.Words.{raw, message}
 use Rattle.setups.specs.Saved.{takesStore, oldIn}
 
@@ -23,11 +23,11 @@ use Rattle.setups.specs.Saved.{takesStore, oldIn}
 
 -- what the reader makes of a list, and what the old reader does
 unfoldable pub readBy : List ℕ → List ℕ → Option Setup
-unfolding bind within member word wordAt codeOf threeRates twoRates bit widthFlag idOf idLimit takes twelve shown protocolOf txFlagsOf sizeOf wideOf dataOf messageCode clean noneYet free shorter filterCode filterOf periodicCode sameBytes isClean cleanIn filterIn periodicIn eachIn placed slotsIn bodyIn versionIn storeIn numbers.front numbers.joined numbers.highest numbers.shortest numbers.taken numbers.numberIn reads._>>=_ reads.done reads.bad reads.number reads.bytes reads.where-true reads.only nothingAfter readWhole
+unfolding bind within member word wordAt codeOf threeRates twoRates listens bit widthFlag idOf idLimit takes twelve shown protocolOf txFlagsOf sizeOf wideOf dataOf messageCode clean noneYet free shorter filterCode filterOf periodicCode sameBytes isClean cleanIn filterIn periodicIn eachIn placed slotsIn bodyIn versionIn storeIn numbers.front numbers.joined numbers.highest numbers.shortest numbers.taken numbers.numberIn reads._>>=_ reads.done reads.bad reads.number reads.bytes reads.where-true reads.only nothingAfter readWhole
 readBy rates s = readWhole (storeIn rates) s
 
 unfoldable pub readByOld : List ℕ → List ℕ → Option Setup
-unfolding bind within member word wordAt codeOf threeRates twoRates bit widthFlag idOf idLimit takes twelve shown protocolOf txFlagsOf sizeOf wideOf dataOf messageCode clean noneYet free shorter filterCode filterOf periodicCode sameBytes isClean cleanIn filterIn periodicIn eachIn placed slotsIn bodyIn oldIn numbers.front numbers.joined numbers.highest numbers.shortest numbers.taken numbers.numberIn reads._>>=_ reads.done reads.bad reads.number reads.bytes reads.where-true reads.only nothingAfter readWhole
+unfolding bind within member word wordAt codeOf threeRates twoRates listens bit widthFlag idOf idLimit takes twelve shown protocolOf txFlagsOf sizeOf wideOf dataOf messageCode clean noneYet free shorter filterCode filterOf periodicCode sameBytes isClean cleanIn filterIn periodicIn eachIn placed slotsIn bodyIn oldIn numbers.front numbers.joined numbers.highest numbers.shortest numbers.taken numbers.numberIn reads._>>=_ reads.done reads.bad reads.number reads.bytes reads.where-true reads.only nothingAfter readWhole
 readByOld rates s = readWhole (oldIn rates) s
 
 -- ---- nothing set

@@ -1,7 +1,7 @@
 -- Set-ups that a channel can have: what is asked of a filter, of a periodic and of the whole. Assumes nothing.
 use Prim.Native.Nat.{ℕ, _≤_}
 use mathlib.Core.Path.{_≡_}
-use mathlib.Core.Bool.{Bool}
+use mathlib.Core.Bool.{Bool, not}
 use mathlib.Core.Option.{Option, none, some}
 use mathlib.Core.List.{List, [], _∷_}
 use lib.Dec.{T}
@@ -11,6 +11,7 @@ use Rattle.number.specs.Number.{largest}
 use Rattle.machine.specs.Message.{takes, idOf, idLimit, widthFlag, Rec, twelve}
 use Rattle.machine.specs.Filter.{Filter}
 use Rattle.machine.specs.Store.{Setup}
+use Rattle.machine.specs.Channel.{listens}
 
 -- of what a place holds, if it is taken; of each place
 abbrev pub Holds : {A : Type 0} → (A → Type 0) → Option A → Type 0
@@ -47,7 +48,9 @@ pub record GoodMessage (flags : ℕ) (r : Rec) : Type 0 where
   pub identifier : idOf (r .bytes) ≤ idLimit wide
   pub width : T (takes flags wide)
 
+-- no listener has one
 pub record GoodPeriodic (flags : ℕ) (p : Rec × ℕ) : Type 0 where
+  pub speaks : T (not (listens flags))
   pub message : GoodMessage flags (p .0)
   pub low : 5 ≤ p .1
   pub high : p .1 ≤ 65535
