@@ -3,7 +3,8 @@ ghost use mathlib.Core.Path.{_≡_};
 ghost use Rattle.codec.specs.Plain.{member};
 ghost use Rattle.machine.specs.Codes.{threeRates};
 ghost use Rattle.machine.specs.Message.{widthFlag, idLimit, takes};
-ghost use Rattle.machine.specs.Channel.{isFlags};
+ghost use Rattle.machine.specs.Channel.{isFlags, isRawFlags};
+ghost use Rattle.machine.specs.Channel.{listens as listensBy};
 
 // The protocol of raw CAN.
 pub const PROTOCOL: u32 = 5;
@@ -35,11 +36,27 @@ pub fn width_flag(wide: bool) -> u32
     if wide { 0x100 } else { 0 }
 }
 
-// Are these the flags of a connection?
+// Are these the flags of a connection that is no listener?
 pub fn is_flags(flags: u32) -> bool
     ensures { λ r. ⌜ r ≡ isFlags flags ⌝ }
 {
     (flags == 0) | ((flags == 0x100) | ((flags == 0x800) | (flags == 0x900)))
+}
+
+// Are these the flags of a raw connection, be it a listener's or not?
+pub fn is_raw_flags(flags: u32) -> bool
+    ensures { λ r. ⌜ r ≡ isRawFlags flags ⌝ }
+{
+    let listener = (flags == 0x1000_0800) | (flags == 0x1000_0900);
+    let listener = (flags == 0x1000_0000) | ((flags == 0x1000_0100) | listener);
+    (flags == 0) | ((flags == 0x100) | ((flags == 0x800) | ((flags == 0x900) | listener)))
+}
+
+// Is a connection of these flags a listener?
+pub fn listens(flags: u32) -> bool
+    ensures { λ r. ⌜ r ≡ listensBy flags ⌝ }
+{
+    flags / 0x1000_0000 % 2 == 1
 }
 
 // Is this one of the rates that a memory may hold?

@@ -2,7 +2,7 @@
 use mathlib.Core.Path.{_≡_, refl, sym, ap, ap₂, _∙_}
 use Prim.Native.Nat.{ℕ, _+_}
 use native.Mathlib.Omega.{arith}
-use mathlib.Core.Bool.{Bool, true, false, _&&_}
+use mathlib.Core.Bool.{Bool, true, false, _&&_, not}
 use mathlib.Core.Option.{Option}
 use mathlib.Core.List.{List, [], _∷_}
 use lib.ListN.{length, getD, take, drop}
@@ -11,9 +11,10 @@ use lib.Dec.{leb}
 use Rattle.codec.specs.Plain.{member}
 use Rattle.codec.specs.Word.{wordAt}
 use Rattle.codec.specs.Code.{Code, byte, both, bothOn, via, such, mark, slot, upTo}
+use Rattle.codec.proofs.Tests.{and-assoc}
 use Rattle.machine.specs.Filter.{Slots}
 use Rattle.machine.specs.Message.{Rec}
-use Rattle.machine.specs.Channel.{Receiving}
+use Rattle.machine.specs.Channel.{Receiving, listens}
 use Rattle.layout.specs.Sizes.{configSize, flagsAt}
 use Rattle.layout.specs.Memory.{config}
 use Rattle.layout.proofs.Sizes.{config-size}
@@ -127,13 +128,19 @@ module _ (m : List ℕ) where
       ap₂ (λ (k : ℕ) (x : List ℕ). config .valid (take k (drop flagsAt m)) && isoRest key .valid x) config-size rest-at
       ∙ ap (λ (b : Bool). config .valid (take configSize (drop flagsAt m)) && b) (rest-flat key m t ∙ ap (λ (k : ℕ). restTests k m) key-is)
 
-  linked-flat : linked (readyBack (bothOn (λ c. c .flags) config isoRest .get (drop flagsAt m))) ≡ linkedTalks (twoTalks key m) (slot (flightCode key) .get (take isoFlightSize (drop isoFlightAt m)))
+  linked-flat : linked (readyBack (bothOn (λ c. c .flags) config isoRest .get (drop flagsAt m)))
+      ≡ (linkedTalks (twoTalks key m) (slot (flightCode key) .get (take isoFlightSize (drop isoFlightAt m))) && not (listens (wordAt flagsAt m)))
   unfolding bothOn linked key
   linked-flat =
+      let talks : linkedTalks _ _ ≡ linkedTalks _ _ =
       ap (λ (x : List ℕ). linkedTalks (isoRest key .get x .0) (isoRest key .get x .1 .1 .0)) rest-at
-      ∙ ap₂ (λ (ts : Slots Talk) (f : Option Flight). linkedTalks ts f) (two-talks key m) (a-flight key m)
+      ∙ ap₂ (λ (ts : Slots Talk) (f : Option Flight). linkedTalks ts f) (two-talks key m) (a-flight key m) in
+      λ j. talks j && not (listens (key-is j))
 
   pub open-flat : Bytes m → (l : Bool) → ((flags : ℕ) → l ≡ linkedTalks (twoTalks flags m) (slot (flightCode flags) .get (take isoFlightSize (drop isoFlightAt m))))
-      → (config .valid (take configSize (drop flagsAt m)) && restTests (wordAt flagsAt m) m && l) ≡ readyPart .valid (drop flagsAt m)
+      → (config .valid (take configSize (drop flagsAt m)) && restTests (wordAt flagsAt m) m && l && not (listens (wordAt flagsAt m))) ≡ readyPart .valid (drop flagsAt m)
   unfolding readyPart such via
-  open-flat t l e = sym (ap₂ (λ (a b : Bool). a && b) (parts-flat t) (linked-flat ∙ sym (e key)))
+  open-flat t l e =
+      let quiet : Bool = not (listens (wordAt flagsAt m)) in
+      let parts : Bool = config .valid (take configSize (drop flagsAt m)) && restTests (wordAt flagsAt m) m in
+      sym (ap₂ (λ (a b : Bool). a && b) (parts-flat t) (linked-flat ∙ ap (λ (b : Bool). b && quiet) (sym (e key))) ∙ and-assoc parts l quiet)

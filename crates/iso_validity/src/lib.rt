@@ -1,4 +1,5 @@
 // Is this the region of an ISO 15765 channel? Each function decides what one part of the layout calls valid.
+use can::listens;
 use integers::wide;
 use integers::word_at;
 use iso_stored::frame;
@@ -101,7 +102,7 @@ fn is_kept(code: u32) -> bool
     (code == codes::STATUS_NOERROR) | kept
 }
 
-// The region of an open channel, behind its open mark: each part, then what they say of each other.
+// The region of an open channel, behind its open mark: each part, then what they say of each other; it is no listener.
 fn opened(r: &[u8]) -> bool
     requires { ⌜ length (now r) ≡ isoRegionSize ⌝ }
     ensures { λ b. ⌜ b ≡ readyPart .valid (drop 1 (now (r .entry))) ⌝ }
@@ -123,6 +124,7 @@ fn opened(r: &[u8]) -> bool
             &r[SECOND..iso_places::MESSAGES],
             &r[iso_places::FLIGHT..iso_places::HEARD],
         )
+        & !listens(flags)
 }
 
 // The region of an ISO 15765 channel: closed and zeros, or open.

@@ -2,7 +2,7 @@
 use mathlib.Core.Path.{_≡_, refl, sym, ap, ap₂, _∙_, subst}
 use Prim.Native.Nat.{ℕ, _+_, _*_, _-_, _≤_, _<_}
 use native.Mathlib.Omega.{arith}
-use mathlib.Core.Bool.{Bool, true, false, _&&_}
+use mathlib.Core.Bool.{Bool, true, false, _&&_, not}
 use mathlib.Core.List.{List, [], _∷_}
 use lib.ListN.{length, getD, take, drop, length-drop}
 use lib.Seq.{getD-take, drop-drop}
@@ -15,6 +15,7 @@ use Rattle.codec.proofs.Tests.{left, right, T-false, and-false}
 use Rattle.codec.proofs.Word.{word-part, word-drop}
 use Rattle.machine.specs.Limits.{recordSize, mostData, rxStatusIn, txFlagsIn, timestampIn, sizeIn, extraIndexIn, dataIn}
 use Rattle.machine.specs.Message.{idOf, idLimit, takes, bit}
+use Rattle.machine.specs.Channel.{listens}
 use Rattle.layout.specs.Record.{row, dataBack, dataFits, body, rec36, widthFits, outgoing, incoming, outCell, inCell}
 use Rattle.stored_records.specs.Held.{fieldsOf}
 use Rattle.stored_records.proofs.Parts.{Bytes, less, rest-part, row-valid, row-got, behind-word}
@@ -153,7 +154,7 @@ module _ (m : List ℕ) (h : length m ≡ recordSize) (t : Bytes m) where
     unfolding outCell such outgoing fieldsOf
     out-flat =
         under _ _ (λ v.
-        ap (λ (b : Bool). eqb (wordAt rxStatusIn m) 0 && member (wordAt txFlagsIn m) (0 ∷ 0x100 ∷ []) && eqb (wordAt timestampIn m) 0 && b) (fits-same (bit 0x100 (wordAt txFlagsIn m)) v)
+        ap (λ (b : Bool). eqb (wordAt rxStatusIn m) 0 && member (wordAt txFlagsIn m) (0 ∷ 0x100 ∷ []) && eqb (wordAt timestampIn m) 0 && b && not (listens flags)) (fits-same (bit 0x100 (wordAt txFlagsIn m)) v)
         ∙ sym (ap (outgoing flags) rec-got))
 
     pub in-flat : (rec36 .valid m && incoming flags (fieldsOf m)) ≡ inCell flags .valid m

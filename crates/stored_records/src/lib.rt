@@ -1,5 +1,6 @@
 // Are these stored records? A record's fields, its width on a connection of given flags, and stores of at most so many.
 use can::id_limit;
+use can::listens;
 use can::takes_width;
 use integers::id_at;
 use integers::word_at;
@@ -48,7 +49,7 @@ pub fn width_fits(s: &[u8], flags: u32, wide: bool) -> bool
     (id_at(s, places::DATA_IN) <= id_limit(wide)) & takes_width(flags, wide)
 }
 
-// The fields of a record held for sending, on a connection of these flags.
+// The fields of a record held for sending, on a connection of these flags; a listener holds none.
 fn outgoing(s: &[u8], flags: u32) -> bool
     requires { ⌜ length (now s) ≡ recordSize ⌝ }
     ensures { λ r. ⌜ r ≡ isOutgoing flags (fieldsOf (now (s .entry))) ⌝ }
@@ -58,6 +59,7 @@ fn outgoing(s: &[u8], flags: u32) -> bool
         & ((tx == 0) | (tx == 0x100))
         & (word_at(s, places::TIMESTAMP_IN) == 0)
         & width_fits(s, flags, tx / 0x100 % 2 == 1)
+        & !listens(flags)
 }
 
 // The fields of a record held for reading.

@@ -12,7 +12,7 @@ use Rattle.codec.specs.Word.{wordAt}
 use Rattle.codec.specs.Code.{Code, byte, word32, both, bothOn, via, such, mark, slot, upTo, upToOne, validSlot}
 use Rattle.codec.proofs.Word.{word-part, word-drop}
 use Rattle.machine.specs.Codes.{threeRates, callCodes}
-use Rattle.machine.specs.Channel.{isFlags}
+use Rattle.machine.specs.Channel.{isRawFlags}
 use Rattle.machine.specs.Limits.{mostWritten, mostToRead}
 use Rattle.layout.specs.Sizes.{configSize, filtersSize, mappedSize, periodicsSize, writtenSize, flightSize, queueSize, sendingSize, receivingSize, flagsAt, filtersAt, periodicsAt, receivingAt, lastAt, linkAt, regionSize}
 use Rattle.layout.specs.Record.{outCell, inCell}
@@ -50,9 +50,9 @@ second-word : (m : List ℕ) → Settings .get m .1 .0 ≡ wordAt 4 m
 unfolding both word32
 second-word m = word-part 4 m
 
-pub config-flat : (m : List ℕ) → Bytes m → (leb (getD m 8 0) 1 && (isFlags (wordAt 0 m) && member (wordAt 4 m) threeRates)) ≡ config .valid m
+pub config-flat : (m : List ℕ) → Bytes m → (leb (getD m 8 0) 1 && (isRawFlags (wordAt 0 m) && member (wordAt 4 m) threeRates)) ≡ config .valid m
 unfolding config via such configFits
-config-flat m t = sym (λ j. settings-is m t j && (isFlags (first-word m j) && member (second-word m j) threeRates))
+config-flat m t = sym (λ j. settings-is m t j && (isRawFlags (first-word m j) && member (second-word m j) threeRates))
 
 -- ---- the parts of an open channel
 

@@ -1,6 +1,7 @@
 // Is this the region of a raw channel? Each function decides what one part of the layout calls valid, and the cost grows with what is held.
-use can::is_flags;
 use can::is_known_rate;
+use can::is_raw_flags;
+use can::listens;
 use can::takes_width;
 use integers::wide;
 use integers::word_at;
@@ -27,7 +28,7 @@ pub fn configuration(s: &[u8]) -> bool
     requires { ⌜ length (now s) ≡ configSize ⌝ }
     ensures { λ r. ⌜ r ≡ config .valid (now (s .entry)) ⌝ }
 {
-    (s[LOOPBACK_IN] <= 1) & (is_flags(word_at(s, 0)) & is_known_rate(word_at(s, RATE_IN)))
+    (s[LOOPBACK_IN] <= 1) & (is_raw_flags(word_at(s, 0)) & is_known_rate(word_at(s, RATE_IN)))
 }
 
 // Ten filters, and behind them the maps that follow from them.
@@ -68,12 +69,12 @@ fn receiving(s: &[u8], flags: u32) -> bool
         & (s[places::QUEUE_SIZE] <= 1)
 }
 
-// No connection, or one on a channel that takes narrow frames.
+// No connection, or one on a channel that takes narrow frames and is no listener.
 fn link(s: &[u8], flags: u32) -> bool
     requires { ⌜ length (now s) ≡ linkSize ⌝ }
     ensures { λ r. ⌜ r ≡ linkPart flags .valid (now (s .entry)) ⌝ }
 {
-    link_validity::valid(s) & ((s[0] == 0) | takes_width(flags, false))
+    link_validity::valid(s) & ((s[0] == 0) | (takes_width(flags, false) & !listens(flags)))
 }
 
 // The region of an open channel, behind its open mark: every width there is one that its flags take, and the last code one that is kept.

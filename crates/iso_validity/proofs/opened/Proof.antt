@@ -2,6 +2,7 @@
 use Rattle.iso_validity.proofs.Ready.{open-flat}
 use Rattle.codec.specs.Plain.{member}
 use Rattle.codec.specs.Code.{slot, upTo}
+use Rattle.machine.specs.Channel.{listens}
 use Rattle.iso.specs.Limits.{mostMessages}
 use Rattle.iso.specs.Iso.{isoCodes}
 use Rattle.iso_layout.specs.Sizes.{talksSize, messagesSize, isoFlightSize, heardSize, talksAt, messagesAt, isoFlightAt, heardAt}
@@ -10,14 +11,16 @@ use Rattle.iso_stored.specs.Held.{held}
 use lib.ListN.{take, drop}
 use Prim.Native.Nat.{ℕ, _+_}
 use mathlib.Core.List.{List}
-use mathlib.Core.Bool.{true, _&&_}
+use mathlib.Core.Bool.{true, _&&_, not}
 use mathlib.Core.Path.{ap, _∙_}
 use borrow.Author.Needs.{needs}
 use Rattle.iso_validity.proofs.opened.Statement.{statement}
 use Rattle.iso_validity.proofs.opened.Tie as tie
 
 returns : tie.Need-returns
-returns c = let last = c .before .before .before .before in
+returns c =
+    let joined = c .before in
+    let last = joined .before .before .before .before in
     let received = last .before .before .before in
     let flying = received .before .before in
     let written = flying .before .before in
@@ -32,8 +35,9 @@ returns c = let last = c .before .before .before .before in
     let aloft = flying .flight .ensures ∙ ap (λ (k : ℕ). slot (flightCode k) .valid (take isoFlightSize (drop isoFlightAt r))) f in
     let queue = received .heard .ensures ∙ ap (λ (k : ℕ). heardPart k .valid (take (heardSize + 1) (drop heardAt r))) f in
     let kept = last .is-kept .ensures ∙ ap (λ (k : ℕ). member k isoCodes) (last .before .wide .ensures .0) in
-    (λ j. set .configuration .ensures j && (two j && (messages j && (aloft j && (queue j && kept j)))) && c .linked .result)
-    ∙ open-flat r (first .word-at .ensures .1) (c .linked .result) (c .linked .ensures)
+    let quiet = c .listens .ensures ∙ ap listens f in
+    (λ j. set .configuration .ensures j && (two j && (messages j && (aloft j && (queue j && kept j)))) && joined .linked .result && not (quiet j))
+    ∙ open-flat r (first .word-at .ensures .1) (joined .linked .result) (joined .linked .ensures)
 
 pub opened-spec : {M : Type 1} → statement M
 opened-spec =
@@ -72,5 +76,6 @@ opened-spec =
     (λ c. search needs)
     (λ c. search needs)
     (λ c. search needs)
+    (λ c κs. search needs)
     (λ c κs. search needs)
     returns)

@@ -1,6 +1,6 @@
 -- `validity::configuration` meets its contract. Assumes nothing.
 use Rattle.validity.proofs.Region.{config-flat}
-use Rattle.machine.specs.Channel.{isFlags}
+use Rattle.machine.specs.Channel.{isRawFlags}
 use Rattle.machine.specs.Codes.{threeRates}
 use Rattle.codec.specs.Plain.{member}
 use lib.ListN.{getD}
@@ -16,7 +16,7 @@ use Rattle.validity.proofs.configuration.Tie as tie
 returns : tie.Need-returns
 returns c = let first = c .before .before .before in
     let s : List ℕ = first .before .before .before .args .s .now in
-    let flags = c .before .before .is-flags .ensures ∙ ap isFlags (first .word-at .ensures .0) in
+    let flags = c .before .before .is-raw-flags .ensures ∙ ap isRawFlags (first .word-at .ensures .0) in
     let rate = c .is-known-rate .ensures ∙ ap (λ (r : ℕ). member r threeRates) (c .before .word-at2 .ensures .0) in
     (λ j. leb (getD s 8 0) 1 && (flags j && rate j)) ∙ config-flat s (first .word-at .ensures .1)
 
