@@ -12,7 +12,7 @@ use Rattle.codec.specs.Plain.{member, zeros}
 use Rattle.codec.specs.Word.{word}
 use Rattle.codec.specs.Code.{via, slot, getSlot}
 use Rattle.machine.specs.Codes.{codeOf}
-use Rattle.machine.specs.Channel.{Chan, closed, Outcome, says, unless, doneWith, isFlags, isOpen, connectCode, fresh, onConnect, onOpen, disconnect}
+use Rattle.machine.specs.Channel.{Chan, closed, Outcome, says, unless, doneWith, isRawFlags, isOpen, connectCode, fresh, onConnect, onOpen, disconnect}
 use Rattle.layout.specs.Sizes.{regionSize, flagsAt, rateAt, loopbackAt, numberSize}
 use Rattle.layout.specs.Memory.{openPart, chanBack, region}
 use Rattle.layout.specs.Promise.{gives, Opened, regionGives, callOutcome}
@@ -30,22 +30,22 @@ module _ (rates : List ℕ) (p f r : ℕ) where
   unfolding connectCode codeOf
   bad-protocol h = rw (ne-eqb p 5 h)
 
-  pub bad-flags : p ≡ 5 → isFlags f ≡ false → 6 ≡ connectCode rates p f r []
+  pub bad-flags : p ≡ 5 → isRawFlags f ≡ false → 6 ≡ connectCode rates p f r []
   unfolding connectCode codeOf
   bad-flags h g = rw (eq-eqb p 5 h) (rw g refl)
 
-  pub bad-rate : p ≡ 5 → isFlags f ≡ true → member r rates ≡ false → 25 ≡ connectCode rates p f r []
+  pub bad-rate : p ≡ 5 → isRawFlags f ≡ true → member r rates ≡ false → 25 ≡ connectCode rates p f r []
   unfolding connectCode codeOf
   bad-rate h g m = rw (eq-eqb p 5 h) (rw g (rw m refl))
 
-  pub good-connect : p ≡ 5 → isFlags f ≡ true → member r rates ≡ true → 0 ≡ connectCode rates p f r []
+  pub good-connect : p ≡ 5 → isRawFlags f ≡ true → member r rates ≡ true → 0 ≡ connectCode rates p f r []
   unfolding connectCode codeOf
   good-connect h g m = rw (eq-eqb p 5 h) (rw g (rw m refl))
 
 -- the tests of the line come into play where those three give no code
 module _ (rates : List ℕ) (p f r : ℕ) (more : List (Bool × ℕ)) where
   abbrev three : List (Bool × ℕ)
-  three = (not (eqb p 5), 0x03) ∷ (not (isFlags f), 0x06) ∷ (not (member r rates), 0x19) ∷ []
+  three = (not (eqb p 5), 0x03) ∷ (not (isRawFlags f), 0x06) ∷ (not (member r rates), 0x19) ∷ []
 
   pub more-tests : connectCode rates p f r [] ≡ 0 → connectCode rates p f r more ≡ codeOf more
   unfolding connectCode

@@ -18,7 +18,7 @@ pub fn connect_code(rates: &[u32], protocol: u32, flags: u32, rate: u32) -> u32
     if protocol != can::PROTOCOL {
         return codes::ERR_INVALID_PROTOCOL_ID;
     }
-    if !can::is_flags(flags) {
+    if !can::is_raw_flags(flags) {
         return codes::ERR_INVALID_FLAGS;
     }
     if !can::is_rate(rates, rate) {

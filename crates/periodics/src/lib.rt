@@ -3,7 +3,7 @@ ghost use mathlib.Core.Path.{_≡_};
 ghost use mathlib.Core.List.{List, []};
 ghost use Prim.Native.Nat.{ℕ};
 ghost use Rattle.machine.specs.Channel.{startPeriodic, stopPeriodic};
-ghost use Rattle.layout.specs.Promise.{Opened, gives, callOutcome};
+ghost use Rattle.layout.specs.Promise.{Opened, Speaker, gives, callOutcome};
 ghost use Rattle.periodics.specs.Start.{startCode};
 use codes::Answer;
 
@@ -32,7 +32,7 @@ fn start_code(message: &[u8], interval: u32, flags: u32) -> u32
 
 // Start: a new periodic under the smallest free number.
 pub fn start_periodic(r: &mut [u8], message: &[u8], interval: u32) -> Answer
-    requires { ⌜ Opened (now r) ⌝ }
+    requires { ⌜ Speaker (now r) ⌝ }
     ensures { λ a. ⌜ ((rates : List ℕ) (t : ℕ) → gives (a .code) (a .value) [] (now (r .exit)) ≡ callOutcome rates t (now (r .entry)) (startPeriodic (now (message .entry)) interval)) ⌝ }
 {
     let code = start_code(message, interval, integers::word_at(r, places::FLAGS));

@@ -2,7 +2,7 @@
 use mathlib.Core.Path.{_≡_, refl, sym, ap, _∙_}
 use Prim.Native.Nat.{ℕ, _+_, _*_, _^_, _≤_, _<_}
 use native.Mathlib.Omega.{arith}
-use mathlib.Core.Bool.{true, false}
+use mathlib.Core.Bool.{true, false, not}
 use mathlib.Core.Option.{Option, none, some}
 use mathlib.Core.List.{List, [], _∷_}
 use lib.Dec.{T}
@@ -15,7 +15,7 @@ use Rattle.codec.proofs.Lawful.{word-lawful, mark-lawful, mark-ok}
 use Rattle.codec.proofs.Cells.{entry-stored, byte-stored}
 use Rattle.machine.specs.Message.{messageCode, clean}
 use Rattle.machine.specs.Filter.{Slots, free, taken}
-use Rattle.machine.specs.Channel.{Periodic, periodicOf}
+use Rattle.machine.specs.Channel.{Periodic, listens, periodicOf}
 use Rattle.machine.proofs.Slots.{free-more, free-here, free-all}
 use Rattle.machine.specs.Limits.{mostPlaces, recordSize}
 use Rattle.layout.specs.Sizes.{phasesIn, pendingIn, messagesIn, numberSize}
@@ -50,12 +50,12 @@ module _ (m : List ℕ) (v : PeriodicPart m) where
           ap (λ (x : List ℕ). putMid a k x ys) em
           ∙ place-stored none tt tt refl 0 0 a k ys refl refl ea ek (ey ∙ ap (λ (n : ℕ). zeros n) (l ∙ sym (record-size (v .flags)))) flags
 
-      pub start-stored : (message : List ℕ) (interval : ℕ) → interval < 2 ^ 32 → recordSize ≤ length message → T (all isByte message) → messageCode (v .flags) message ≡ 0
+      pub start-stored : (message : List ℕ) (interval : ℕ) → interval < 2 ^ 32 → recordSize ≤ length message → T (all isByte message) → messageCode (v .flags) message ≡ 0 → T (not (listens (v .flags)))
           → ms ≡ timed i interval 1 m → ys ≡ rec36 .put (clean message) → putMid a k ms ys ≡ periodics flags .put (set (periodics flags .get m) i (some (periodicOf message interval)))
       unfolding periodicOf vacant outCell such
-      start-stored message interval hi l t g em ey =
+      start-stored message interval hi l t g may em ey =
           ap (λ (x : List ℕ). putMid a k x ys) em
-          ∙ place-stored (some (periodicOf message interval)) (word-ok interval hi) (clean-ok (v .flags) message l t g) refl interval 1 a k ys refl refl ea ek ey flags
+          ∙ place-stored (some (periodicOf message interval)) (word-ok interval hi) (clean-ok (v .flags) message may l t g) refl interval 1 a k ys refl refl ea ek ey flags
 
   -- the first empty place, found by its interval. The first i are taken, as `e` says, which holds at 0
   module _ (i : ℕ) (flags : ℕ) (e : free (periodics flags .get m) ≡ i + free (drop i (periodics flags .get m))) where

@@ -1,7 +1,11 @@
-// Where the region of a channel is, in a memory of the whole box that is known to be valid.
+// Where the region of a channel is, in a memory of the whole box that is known to be valid, and whether it is a listener's.
 ghost use Prim.Native.Nat.{_≤_, _-_};
 ghost use mathlib.Core.Path.{_≡_};
 ghost use lib.Dec.{T};
+ghost use lib.ListN.{length};
+ghost use Rattle.codec.specs.Word.{wordAt};
+ghost use Rattle.machine.specs.Channel.{listens as listensBy};
+ghost use Rattle.layout.specs.Sizes.{regionSize, flagsAt};
 ghost use Rattle.whole.specs.Device.{channels};
 ghost use Rattle.memory.specs.Memory.{valid};
 ghost use Rattle.memory.specs.Promise.{Placed, RawPlaced};
@@ -48,4 +52,12 @@ pub fn raw_region_of(mem: &[u8], channel: u32) -> usize
         return base;
     }
     0
+}
+
+// Is this the region of a listener? What would speak on its line is refused.
+pub fn listens(r: &[u8]) -> bool
+    requires { ⌜ length (now r) ≡ regionSize ⌝ }
+    ensures { λ b. ⌜ b ≡ listensBy (wordAt flagsAt (now (r .entry))) ⌝ }
+{
+    can::listens(integers::word_at(r, places::FLAGS))
 }

@@ -11,7 +11,7 @@ fn show(store: &[u8]) -> bool {
 
 // Says why no channel would load a good store: its flags are none that a channel has, or its rate is one of before.
 fn warn(flags: u32, retired: bool) {
-    if !can::is_flags(flags) {
+    if !can::is_raw_flags(flags) {
         io::write_all(
             STDERR_FILENO,
             b"store: cannot be loaded: no channel has its flags\n",

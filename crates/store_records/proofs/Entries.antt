@@ -8,13 +8,14 @@ use borrow.Author.Tests.{le-ltb, eq-eqb, ne-eqb}
 use lib.Dec.{eqb}
 use lib.ListN.{length}
 use Rattle.codec.specs.Plain.{if_then_else_, within}
+use Rattle.codec.proofs.Tests.{and-false}
 use Rattle.number.specs.Reads.{_>>=_, done, bad, number, where-true}
 use Rattle.machine.specs.Codes.{codeOf}
 use Rattle.machine.specs.Limits.{recordSize, leastInterval, mostInterval}
 use Rattle.machine.specs.Message.{messageCode, clean}
 use Rattle.machine.specs.Filter.{noneYet, free}
 use Rattle.machine.specs.Store.{cleanIn}
-use Rattle.machine.specs.Channel.{Open, shorter, blank, filterCode, filterOf, periodicCode, filterIn, periodicIn}
+use Rattle.machine.specs.Channel.{Open, listens, shorter, blank, filterCode, filterOf, periodicCode, filterIn, periodicIn}
 use Rattle.store_records.specs.Places.{afterOf}
 
 -- the place after a value that passes a test
@@ -79,16 +80,27 @@ module _ (flags : ℕ) (s : List ℕ) (at : ℕ) where
               last true q = refl
               last false q = q
 
-      tested-periodic : (w : Bool) (k : ℕ) → within leastInterval mostInterval interval ≡ w → messageCode flags m ≡ k → afterOf (periodicIn flags s at) ≡ (if w && eqb k 0 then some next else none)
+      tested-periodic : (w : Bool) (k : ℕ) (l : Bool) → within leastInterval mostInterval interval ≡ w → messageCode flags m ≡ k → listens flags ≡ l
+          → afterOf (periodicIn flags s at) ≡ (if not l && (w && eqb k 0) then some next else none)
       unfolding periodicIn _>>=_ bind
-      tested-periodic w k e f = rw (a, b) (after-test (eqb (periodicCode (blank flags 0) m interval) 0) (clean m, interval) s next ∙ ap (λ (c : Bool). if c then some next else none) (code w k e f))
+      tested-periodic w k l e f q =
+          rw (a, b)
+          (after-test (not (listens flags) && eqb (periodicCode (blank flags 0) m interval) 0) (clean m, interval) s next
+          ∙ (λ j. if not (q j) && code w k e f j then some next else none))
 
       pub bad-interval : within leastInterval mostInterval interval ≡ false → none ≡ afterOf (periodicIn flags s at)
-      bad-interval e = sym (tested-periodic false (messageCode flags m) e refl)
+      bad-interval e =
+          sym (tested-periodic false (messageCode flags m) (listens flags) e refl refl ∙ ap (λ (c : Bool). if c then some next else none) (and-false (not (listens flags))))
 
       module _ (k : ℕ) (e : within leastInterval mostInterval interval ≡ true) (f : k ≡ messageCode flags m) where
         pub periodic-refused : (k ≡ 0 → ⊥) → none ≡ afterOf (periodicIn flags s at)
-        periodic-refused h = sym (tested-periodic true k e (sym f) ∙ ap (λ (c : Bool). if c then some next else none) (ne-eqb k 0 h))
+        periodic-refused h =
+            sym (tested-periodic true k (listens flags) e (sym f) refl ∙ ap (λ (c : Bool). if not (listens flags) && c then some next else none) (ne-eqb k 0 h)
+            ∙ ap (λ (c : Bool). if c then some next else none) (and-false (not (listens flags))))
 
-        pub periodic-taken : k ≡ 0 → some next ≡ afterOf (periodicIn flags s at)
-        periodic-taken h = sym (tested-periodic true k e (sym f) ∙ ap (λ (c : Bool). if c then some next else none) (eq-eqb k 0 h))
+        -- a listener starts none
+        pub none-starts : listens flags ≡ true → none ≡ afterOf (periodicIn flags s at)
+        none-starts q = sym (tested-periodic true k true e (sym f) q)
+
+        pub periodic-taken : k ≡ 0 → listens flags ≡ false → some next ≡ afterOf (periodicIn flags s at)
+        periodic-taken h q = sym (tested-periodic true k false e (sym f) q ∙ ap (λ (c : Bool). if c then some next else none) (eq-eqb k 0 h))

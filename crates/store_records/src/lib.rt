@@ -80,7 +80,7 @@ pub fn filter_end(store: &[u8], at: usize, flags: u32) -> Place
     Place::At { next }
 }
 
-// The place after a periodic that a channel just connected with these flags would start.
+// The place after a periodic that a channel just connected with these flags would start; a listener starts none.
 pub fn periodic_end(store: &[u8], at: usize, flags: u32) -> Place
     requires { ⌜ at ≤ length (now store) ⌝ }
     ensures { λ r. ⌜ placeOf r ≡ afterOf (periodicIn flags (now (store .entry)) at) ⌝ }
@@ -99,6 +99,9 @@ pub fn periodic_end(store: &[u8], at: usize, flags: u32) -> Place
         return Place::Bad;
     }
     if message::message_code(&store[at..end], flags) != codes::STATUS_NOERROR {
+        return Place::Bad;
+    }
+    if can::listens(flags) {
         return Place::Bad;
     }
     Place::At { next }

@@ -2,6 +2,7 @@
 use mathlib.Core.Path.{_≡_, refl, sym, ap, ap₂, _∙_, subst}
 use Prim.Native.Nat.{ℕ, suc, _+_, _*_, _-_, _≤_, _<_}
 use native.Mathlib.Omega.{arith}
+use mathlib.Core.Bool.{Bool, false, not}
 use mathlib.Core.List.{List, [], _∷_, _++_}
 use lib.ListN.{length, getD, set, take, drop}
 use lib.Dec.{T}
@@ -15,7 +16,7 @@ use Rattle.codec.proofs.Store.{one-more}
 use Rattle.codec.proofs.Many.{upTo-lawful}
 use Rattle.machine.specs.Codes.{codeOf}
 use Rattle.machine.specs.Message.{Rec, messageCode, clean}
-use Rattle.machine.specs.Channel.{write, unless, shorter, Wrote, writeCode, unlessStopped, writing, onWrite, onOpen}
+use Rattle.machine.specs.Channel.{write, listens, unless, shorter, Wrote, writeCode, unlessStopped, writing, onWrite, onOpen}
 use Rattle.machine.specs.Limits.{mostWritten, recordSize}
 use Rattle.layout.specs.Sizes.{writtenAt, writtenSize, flagsAt}
 use Rattle.layout.specs.Record.{rec36, outCell}
@@ -79,10 +80,10 @@ module _ {flags : ℕ} {store : List ℕ} (w : WrittenPart flags store) where
 
 -- ---- the loop
 
-pub more-ok : (flags : ℕ) (held : List Rec) (m : List ℕ) → writeCode flags held m ≡ 0 → recordSize ≤ length m → T (all isByte m) → T (written flags .ok held) → T (written flags .ok (held ++ clean m ∷ []))
+pub more-ok : (flags : ℕ) → T (not (listens flags)) → (held : List Rec) (m : List ℕ) → writeCode flags held m ≡ 0 → recordSize ≤ length m → T (all isByte m) → T (written flags .ok held) → T (written flags .ok (held ++ clean m ∷ []))
 unfolding writing unlessStopped
-more-ok flags held m e h b t =
-    subst (λ (k : ℕ). T (written flags .ok (unlessStopped k held 0 (record { held = held ++ clean m ∷ []; count = 1; code = 0 }) .held))) e (writing-ok flags 1 m held 0 (omega arith) b t)
+more-ok flags may held m e h b t =
+    subst (λ (k : ℕ). T (written flags .ok (unlessStopped k held 0 (record { held = held ++ clean m ∷ []; count = 1; code = 0 }) .held))) e (writing-ok flags 1 may m held 0 (omega arith) b t)
 
 pub none-left : (flags : ℕ) (b : List ℕ) (held : List Rec) (count : ℕ) → writing flags 0 b held count ≡ record { held = held; count = count; code = 0 }
 unfolding writing
@@ -93,9 +94,9 @@ pub one-left : (flags n : ℕ) (b : List ℕ) (held : List Rec) (count : ℕ)
 unfolding writing
 one-left flags n b held count = refl
 
--- a write of raw CAN
-abbrev pub raw : ℕ → Kind
-raw flags =
+-- a write of raw CAN, on no listener
+abbrev pub raw : (flags : ℕ) → T (not (listens flags)) → Kind
+raw flags may =
     record {
       store = written flags;
       lawful = upTo-lawful (out-lawful flags) mostWritten;
@@ -104,20 +105,23 @@ raw flags =
       writes = writing flags;
       none-left = none-left flags;
       one-left = one-left flags;
-      more-ok = more-ok flags;
+      more-ok = more-ok flags may;
     }
 
-pub turn-part : {flags n : ℕ} {b before store : List ℕ} {i : ℕ} → Turn (raw flags) n b before store i → WrittenPart flags store
-turn-part {flags} u = record { long = u .long ∙ written-size flags; valid = u .valid }
+pub turn-part : {flags n : ℕ} (may : T (not (listens flags))) {b before store : List ℕ} {i : ℕ} → Turn (raw flags may) n b before store i → WrittenPart flags store
+turn-part {flags} may u = record { long = u .long ∙ written-size flags; valid = u .valid }
 
-pub first-turn : {flags : ℕ} {store : List ℕ} (n : ℕ) (b : List ℕ) → WrittenPart flags store → Turn (raw flags) n b store store 0
-first-turn {flags} n b w = no-turn (raw flags) n b (w .long ∙ sym (written-size flags)) (w .valid)
+pub first-turn : {flags : ℕ} {store : List ℕ} (may : T (not (listens flags))) (n : ℕ) (b : List ℕ) → WrittenPart flags store → Turn (raw flags may) n b store store 0
+first-turn {flags} may n b w = no-turn (raw flags may) n b (w .long ∙ sym (written-size flags)) (w .valid)
 
 -- ---- on the region of an open channel
 
 module _ {r : List ℕ} (o : Opened r) {flags : ℕ} (e : flags ≡ wordAt flagsAt r) where
   pub flags-are : flags ≡ fl (openOf r)
   flags-are = e ∙ word-of (flags-part r o)
+
+  pub speaking : listens (wordAt flagsAt r) ≡ false → T (not (listens flags))
+  speaking s = subst (λ (b : Bool). T (not b)) (sym (ap listens e ∙ s)) tt
 
   pub written-lent : WrittenPart flags (take writtenSize (drop writtenAt r))
   written-lent =

@@ -3,11 +3,13 @@ use codes::Answer;
 ghost use mathlib.Core.Path.{_≡_};
 ghost use mathlib.Core.List.{List, []};
 ghost use Prim.Native.Nat.{ℕ, _*_, _≤_};
+ghost use mathlib.Core.Bool.{not};
+ghost use lib.Dec.{T};
 ghost use lib.ListN.{length};
 ghost use Rattle.machine.specs.Limits.{recordSize};
-ghost use Rattle.machine.specs.Channel.{writeCode, writing};
+ghost use Rattle.machine.specs.Channel.{listens, writeCode, writing};
 ghost use Rattle.machine.specs.Channel.{write as writeOf};
-ghost use Rattle.layout.specs.Promise.{gives, Opened, callOutcome};
+ghost use Rattle.layout.specs.Promise.{gives, Speaker, callOutcome};
 ghost use Rattle.stores.specs.Written.{written, WrittenPart};
 ghost use Rattle.writing.specs.Store.{Queued, Stopped};
 
@@ -34,9 +36,9 @@ fn queue(store: &mut [u8], flags: u32, m: &[u8]) -> u32
     codes::STATUS_NOERROR
 }
 
-// The first n records of a buffer, in order, until one is refused.
+// The first n records of a buffer, in order, until one is refused; on no listener.
 fn queue_all(store: &mut [u8], flags: u32, n: u32, buffer: &[u8]) -> Answer
-    requires { ⌜ WrittenPart flags (now store) × (recordSize * n ≤ length (now buffer)) ⌝ }
+    requires { ⌜ WrittenPart flags (now store) × (recordSize * n ≤ length (now buffer)) × T (not (listens flags)) ⌝ }
     ensures { λ a. ⌜ Stopped (written flags) (writing flags n (now (buffer .entry)) (written flags .get (now (store .entry))) 0) (a .code) (a .value) (now (store .exit)) ⌝ }
 {
     let mut i = 0;
@@ -56,7 +58,7 @@ fn queue_all(store: &mut [u8], flags: u32, n: u32, buffer: &[u8]) -> Answer
 
 // Write: the first n records of the buffer, in order, until one is refused or 16 are held.
 pub fn write(r: &mut [u8], n: u32, buffer: &[u8]) -> Answer
-    requires { ⌜ Opened (now r) ⌝ }
+    requires { ⌜ Speaker (now r) ⌝ }
     ensures { λ a. ⌜ ((rates : List ℕ) (t : ℕ) → gives (a .code) (a .value) [] (now (r .exit)) ≡ callOutcome rates t (now (r .entry)) (writeOf n (now (buffer .entry)))) ⌝ }
 {
     if buffer.len() < places::RECORD * n as usize {

@@ -11,15 +11,15 @@ returns c =
 
 returns-2 : tie.Need-returns-2
 returns-2 c =
-    bad-flags _ _ _ _ (c .before .before .if1 .left) (sym (c .before .is-flags .ensures) ∙ not-true _ (c .if2 .taken))
+    bad-flags _ _ _ _ (c .before .before .if1 .left) (sym (c .before .is-raw-flags .ensures) ∙ not-true _ (c .if2 .taken))
 
 returns-3 : tie.Need-returns-3
 returns-3 c =
-    bad-rate _ _ _ _ (c .before .before .before .before .if1 .left) (sym (c .before .before .before .is-flags .ensures) ∙ not-false _ (c .before .before .if2 .left)) (sym (c .before .is-rate .ensures) ∙ not-true _ (c .if3 .taken))
+    bad-rate _ _ _ _ (c .before .before .before .before .if1 .left) (sym (c .before .before .before .is-raw-flags .ensures) ∙ not-false _ (c .before .before .if2 .left)) (sym (c .before .is-rate .ensures) ∙ not-true _ (c .if3 .taken))
 
 returns-4 : tie.Need-returns-4
 returns-4 c =
-    good-connect _ _ _ _ (c .before .before .before .before .if1 .left) (sym (c .before .before .before .is-flags .ensures) ∙ not-false _ (c .before .before .if2 .left)) (sym (c .before .is-rate .ensures) ∙ not-false _ (c .if3 .left))
+    good-connect _ _ _ _ (c .before .before .before .before .if1 .left) (sym (c .before .before .before .is-raw-flags .ensures) ∙ not-false _ (c .before .before .if2 .left)) (sym (c .before .is-rate .ensures) ∙ not-false _ (c .if3 .left))
 
 pub connect-code-spec : {M : Type 1} → statement M
 connect-code-spec =

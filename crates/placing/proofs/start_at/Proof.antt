@@ -25,7 +25,7 @@ returns c =
     let size : messagesIn + i * recordSize + recordSize - (messagesIn + i * recordSize) ≡ recordSize = omega arith in
     λ flags.
     start-stored (start .args .part .now) (s .part) i (start .pre .1) (c .before .before .before .before .before .before .put-timer .last .0) (messagesIn + i * recordSize) _ (c .before .before .put-clean .last .0) refl size flags
-    (start .args .message .now) (start .args .interval) (search needs) (s .long) (bytes-of (start .args .message .now) (λ k. c .before .before .before .before .before .before .before .before .shared-slice-known .given k .fits)) (s .good)
+    (start .args .message .now) (start .args .interval) (search needs) (s .long) (bytes-of (start .args .message .now) (λ k. c .before .before .before .before .before .before .before .before .shared-slice-known .given k .fits)) (s .good) (s .speaks)
     (c .before .before .before .before .before .before .put-timer .ensures) (c .before .before .put-clean .ensures)
 
 pub start-at-spec : {M : Type 1} → statement M

@@ -8,7 +8,7 @@ use denote.Ref.{now}
 use Rattle.number.specs.Reads.{number}
 use Rattle.machine.specs.Store.{cleanIn}
 use Rattle.store_records.proofs.Parts.{place-bad, number-good, number-bad, CleanAt, clean-good, clean-long}
-use Rattle.store_records.proofs.Entries.{no-message, no-interval, bad-interval, periodic-refused, periodic-taken}
+use Rattle.store_records.proofs.Entries.{no-message, no-interval, bad-interval, periodic-refused, none-starts, periodic-taken}
 use Rattle.store_records.proofs.periodic_end.Statement.{statement}
 use Rattle.store_records.proofs.periodic_end.Tie as tie
 
@@ -47,8 +47,17 @@ returns-4 c =
 
 returns-5 : tie.Need-returns-5
 returns-5 c =
-    let m = message-at (c .before .before .before .before .before .before .before .before .before) in
-    periodic-taken _ _ _ (m .is) (interval-at (c .before .before .before .before .before)) (clean-long m) _ (sym (c .before .before .before .before .between .ensures) ∙ not-false _ (c .before .before .before .if1 .left)) (c .before .message-code .ensures) (c .if2 .left)
+    let passed = c .before .before in
+    let m = message-at (passed .before .before .before .before .before .before .before .before .before) in
+    none-starts _ _ _ (m .is) (interval-at (passed .before .before .before .before .before)) (clean-long m) _ (sym (passed .before .before .before .before .between .ensures) ∙ not-false _ (passed .before .before .before .if1 .left)) (passed .before .message-code .ensures)
+    (sym (c .before .listens .ensures) ∙ c .if3 .taken)
+
+returns-6 : tie.Need-returns-6
+returns-6 c =
+    let passed = c .before .before in
+    let m = message-at (passed .before .before .before .before .before .before .before .before .before) in
+    periodic-taken _ _ _ (m .is) (interval-at (passed .before .before .before .before .before)) (clean-long m) _ (sym (passed .before .before .before .before .between .ensures) ∙ not-false _ (passed .before .before .before .if1 .left)) (passed .before .message-code .ensures) (passed .if2 .left)
+    (sym (c .before .listens .ensures) ∙ c .if3 .left)
 
 pub periodic-end-spec : {M : Type 1} → statement M
 periodic-end-spec =
@@ -69,4 +78,6 @@ periodic-end-spec =
     part-message-code-end
     message-code-requires
     returns-4
-    returns-5)
+    (λ c κs. search needs)
+    returns-5
+    returns-6)
