@@ -1,5 +1,5 @@
 // TP2.0 connections, on a memory of the whole box that is known to be valid: one is opened, sends and receives messages, and is ended. The number is that
-// of a raw channel.
+// of a raw channel, which is no listener.
 ghost use mathlib.Core.Path.{_≡_};
 ghost use mathlib.Core.List.{List, []};
 ghost use Prim.Native.Nat.{ℕ};
@@ -32,6 +32,10 @@ pub fn link_open(
     if a == 0 {
         return codes::ERR_INVALID_CHANNEL_ID;
     }
+    if seats::listens(mem, a) {
+        noting::note(mem, a, codes::ERR_NOT_SUPPORTED);
+        return codes::ERR_NOT_SUPPORTED;
+    }
     let code = linking::open(
         &mut mem[a..a + REGION],
         own,
@@ -55,6 +59,10 @@ pub fn link_send(mem: &mut [u8], channel: u32, message: &[u8]) -> u32
     if a == 0 {
         return codes::ERR_INVALID_CHANNEL_ID;
     }
+    if seats::listens(mem, a) {
+        noting::note(mem, a, codes::ERR_NOT_SUPPORTED);
+        return codes::ERR_NOT_SUPPORTED;
+    }
     let code = linking::send(&mut mem[a..a + REGION], message);
     noting::note(mem, a, code);
     code
@@ -72,6 +80,13 @@ pub fn link_receive(mem: &mut [u8], channel: u32, buffer: &mut [u8]) -> Answer
             value: 0,
         };
     }
+    if seats::listens(mem, a) {
+        noting::note(mem, a, codes::ERR_NOT_SUPPORTED);
+        return Answer {
+            code: codes::ERR_NOT_SUPPORTED,
+            value: 0,
+        };
+    }
     let answer = linking::receive(&mut mem[a..a + REGION], buffer);
     noting::note(mem, a, answer.code);
     answer
@@ -85,6 +100,10 @@ pub fn link_end(mem: &mut [u8], channel: u32) -> u32
     let a = seats::raw_region_of(mem, channel);
     if a == 0 {
         return codes::ERR_INVALID_CHANNEL_ID;
+    }
+    if seats::listens(mem, a) {
+        noting::note(mem, a, codes::ERR_NOT_SUPPORTED);
+        return codes::ERR_NOT_SUPPORTED;
     }
     let code = linking::end(&mut mem[a..a + REGION]);
     noting::note(mem, a, code);

@@ -34,8 +34,8 @@ raw-same rates t closed type mask pattern flow = refl
 raw-same rates t (opened o) type mask pattern flow = refl
 
 pub no-look : (rates : List ℕ) (t : ℕ) (r : List ℕ) (type : ℕ) (mask pattern flow : List ℕ) → callOutcome rates t r (startFilter type mask pattern) ≡ callOutcome rates t r (startFlow type mask pattern flow)
-unfolding callOutcome
-no-look rates t r type mask pattern flow = ap regionGives (raw-same rates t (region .get r) type mask pattern flow)
+unfolding callOutcome onOpen
+no-look rates t r type mask pattern flow = refl
 
 -- ---- on an ISO 15765 channel a start without a third record is one with an empty one
 

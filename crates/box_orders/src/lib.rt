@@ -74,7 +74,7 @@ pub fn stop_filter(mem: &mut [u8], channel: u32, number: u32) -> u32
     code
 }
 
-// A periodic more, by the smallest free number; it is pending at once. An ISO 15765 channel has none.
+// A periodic more, by the smallest free number; it is pending at once. A listener and an ISO 15765 channel have none.
 pub fn start_periodic(mem: &mut [u8], channel: u32, message: &[u8], interval: u32) -> Answer
     requires { ⌜ T (valid (now mem)) ⌝ }
     ensures { λ a. ⌜ ((rates : List ℕ) → gives (a .code) (a .value) [] (now (mem .exit)) ≡ outcome rates (now (mem .entry)) (call channel (startPeriodic (now (message .entry)) interval))) ⌝ }
@@ -87,6 +87,13 @@ pub fn start_periodic(mem: &mut [u8], channel: u32, message: &[u8], interval: u3
         };
     }
     if a < ISO_REGIONS {
+        if seats::listens(mem, a) {
+            noting::note(mem, a, codes::ERR_NOT_SUPPORTED);
+            return Answer {
+                code: codes::ERR_NOT_SUPPORTED,
+                value: 0,
+            };
+        }
         let answer = periodics::start_periodic(&mut mem[a..a + places::REGION], message, interval);
         noting::note(mem, a, answer.code);
         return answer;

@@ -14,7 +14,7 @@ ghost use Rattle.memory.specs.Promise.{outcome};
 use box_places::ISO_REGIONS;
 use codes::Answer;
 
-// Queues records to send, in order, until one is refused.
+// Queues records to send, in order, until one is refused. A listener queues none.
 pub fn write(mem: &mut [u8], channel: u32, n: u32, buffer: &[u8]) -> Answer
     requires { ⌜ T (valid (now mem)) ⌝ }
     ensures { λ a. ⌜ ((rates : List ℕ) → gives (a .code) (a .value) [] (now (mem .exit)) ≡ outcome rates (now (mem .entry)) (call channel (writes n (now (buffer .entry))))) ⌝ }
@@ -27,6 +27,13 @@ pub fn write(mem: &mut [u8], channel: u32, n: u32, buffer: &[u8]) -> Answer
         };
     }
     if a < ISO_REGIONS {
+        if seats::listens(mem, a) {
+            noting::note(mem, a, codes::ERR_NOT_SUPPORTED);
+            return Answer {
+                code: codes::ERR_NOT_SUPPORTED,
+                value: 0,
+            };
+        }
         let answer = writing::write(&mut mem[a..a + places::REGION], n, buffer);
         noting::note(mem, a, answer.code);
         return answer;
@@ -58,7 +65,7 @@ pub fn read(mem: &mut [u8], channel: u32, n: u32, buffer: &mut [u8]) -> Answer
     answer
 }
 
-// The frame to send next, to a buffer; it stays in flight.
+// The frame to send next, to a buffer; it stays in flight. A listener has none.
 pub fn take(mem: &mut [u8], channel: u32, buffer: &mut [u8]) -> u32
     requires { ⌜ T (valid (now mem)) ⌝ }
     ensures { λ c. ⌜ ((rates : List ℕ) → gives c 0 (now (buffer .exit)) (now (mem .exit)) ≡ outcome rates (now (mem .entry)) (call channel (takeNext (now (buffer .entry))))) ⌝ }
@@ -68,6 +75,10 @@ pub fn take(mem: &mut [u8], channel: u32, buffer: &mut [u8]) -> u32
         return codes::ERR_INVALID_CHANNEL_ID;
     }
     if a < ISO_REGIONS {
+        if seats::listens(mem, a) {
+            noting::note(mem, a, codes::ERR_NOT_SUPPORTED);
+            return codes::ERR_NOT_SUPPORTED;
+        }
         let code = taking::take(&mut mem[a..a + places::REGION], buffer);
         noting::note(mem, a, code);
         return code;
@@ -77,7 +88,7 @@ pub fn take(mem: &mut [u8], channel: u32, buffer: &mut [u8]) -> u32
     code
 }
 
-// The frame in flight is on the line.
+// The frame in flight is on the line. A listener has none.
 pub fn sent(mem: &mut [u8], channel: u32) -> u32
     requires { ⌜ T (valid (now mem)) ⌝ }
     ensures { λ c. ⌜ ((rates : List ℕ) → gives c 0 [] (now (mem .exit)) ≡ outcome rates (now (mem .entry)) (call channel sentOf)) ⌝ }
@@ -88,6 +99,10 @@ pub fn sent(mem: &mut [u8], channel: u32) -> u32
     }
     let now = integers::word_at(mem, 0);
     if a < ISO_REGIONS {
+        if seats::listens(mem, a) {
+            noting::note(mem, a, codes::ERR_NOT_SUPPORTED);
+            return codes::ERR_NOT_SUPPORTED;
+        }
         let code = landing::sent(&mut mem[a..a + places::REGION], now);
         noting::note(mem, a, code);
         return code;

@@ -1,5 +1,5 @@
 -- The filters in the region of an open channel: what each call promises. Assumes nothing.
-use mathlib.Core.Path.{_≡_, sym, ap, subst, _∙_}
+use mathlib.Core.Path.{_≡_, refl, sym, ap, subst, _∙_}
 use Prim.Native.Nat.{ℕ, _+_, _-_, _≤_, _<_}
 use native.Mathlib.Omega.{arith}
 use mathlib.Core.Bool.{Bool, true, false}
@@ -68,7 +68,7 @@ module _ (r : List ℕ) (f : Opened r) where
             ∙ ap (λ (k : ℕ). withFilters (openOf r) (set (openOf r .filters) k (some (filterOf kind mask pattern)))) (sym p)
 
         with-ok : T (filters (fl (openOf r)) .ok with)
-        with-ok = filters-fine (openOf r) with (subst Fine done (fine-open threeRates three-known 0 (omega arith) (openOf r) (good (openOf r) (fine r f)) (startFilter kind mask pattern) (bm, bp)))
+        with-ok = filters-fine (openOf r) with (subst Fine done (fine-open threeRates three-known 0 (omega arith) (openOf r) (good (openOf r) (fine r f)) (startFilter kind mask pattern) (bm, bp) refl))
 
         module _ (ys : List ℕ) (y : (flags : ℕ) → ys ≡ filters flags .put (set (filters flags .get (take filtersSize (drop filtersAt r))) place (some (filterOf kind mask pattern)))) where
           pub start-unmapped : Unmapped (take mappedSize (drop filtersAt (putMid filtersAt filtersSize r ys)))
@@ -112,7 +112,7 @@ module _ (r : List ℕ) (f : Opened r) where
           without-ok : T (filters (fl (openOf r)) .ok without)
           without-ok =
               filters-fine (openOf r) without
-              (subst Fine (ap (λ (x : Outcome). x .0) (stop-done threeRates 0 (openOf r) number is-held)) (fine-open threeRates three-known 0 (omega arith) (openOf r) (good (openOf r) (fine r f)) (stopFilter number) tt))
+              (subst Fine (ap (λ (x : Outcome). x .0) (stop-done threeRates 0 (openOf r) number is-held)) (fine-open threeRates three-known 0 (omega arith) (openOf r) (good (openOf r) (fine r f)) (stopFilter number) tt refl))
 
           module _ (ys : List ℕ) (y : (flags : ℕ) → ys ≡ filters flags .put (set (filters flags .get (take filtersSize (drop filtersAt r))) i none)) where
             pub stop-unmapped : Unmapped (take mappedSize (drop filtersAt (putMid filtersAt filtersSize r ys)))

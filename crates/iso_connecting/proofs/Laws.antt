@@ -2,7 +2,7 @@
 use mathlib.Core.Path.{_≡_, refl, sym, ap, _∙_}
 use Prim.Native.Nat.{ℕ, zero, suc, _+_, _-_}
 use native.Mathlib.Omega.{arith}
-use mathlib.Core.Bool.{Bool, true, not}
+use mathlib.Core.Bool.{Bool, true, false, not}
 use mathlib.Core.List.{List, [], _∷_, _++_}
 use lib.ListN.{length, getD, set}
 use lib.Dec.{T, eqb}
@@ -11,7 +11,7 @@ use borrow.Rule.Slice.PartMut.{putMid}
 use Rattle.codec.specs.Plain.{member, zeros}
 use Rattle.codec.specs.Word.{word}
 use Rattle.machine.specs.Codes.{codeOf}
-use Rattle.machine.specs.Channel.{says, isFlags, connectCode, disconnect}
+use Rattle.machine.specs.Channel.{says, isFlags, disconnect}
 use Rattle.layout.specs.Sizes.{flagsAt, rateAt, loopbackAt, numberSize}
 use Rattle.layout.specs.Promise.{gives}
 use Rattle.machine.proofs.Tables as tables
@@ -23,16 +23,24 @@ use Rattle.iso_layout.specs.Promise.{IsoOpened, isoGives, isoOutcome}
 use Rattle.iso_layout.proofs.Sizes.{shut-zeros, fresh-iso-is}
 use Rattle.iso_layout.proofs.Region.{again, is-shut, shut-bytes, not-shut, is-ready, moves}
 
--- ---- the tests: but for the protocol those of any connect
+-- ---- the tests
 
 module _ (rates : List ℕ) (p f r : ℕ) where
   pub bad-protocol : (p ≡ 6 → ⊥) → 3 ≡ isoConnectCode rates p f r []
   unfolding isoConnectCode codeOf
   bad-protocol h = rw (ne-eqb p 6 h)
 
-  pub good-protocol : p ≡ 6 → (k : ℕ) → k ≡ connectCode rates 5 f r [] → k ≡ isoConnectCode rates p f r []
-  unfolding isoConnectCode connectCode codeOf
-  good-protocol h k e = e ∙ rw (eq-eqb p 6 h) refl
+  pub bad-flags : p ≡ 6 → isFlags f ≡ false → 6 ≡ isoConnectCode rates p f r []
+  unfolding isoConnectCode codeOf
+  bad-flags h g = rw (eq-eqb p 6 h) (rw g refl)
+
+  pub bad-rate : p ≡ 6 → isFlags f ≡ true → member r rates ≡ false → 25 ≡ isoConnectCode rates p f r []
+  unfolding isoConnectCode codeOf
+  bad-rate h g m = rw (eq-eqb p 6 h) (rw g (rw m refl))
+
+  pub good-connect : p ≡ 6 → isFlags f ≡ true → member r rates ≡ true → 0 ≡ isoConnectCode rates p f r []
+  unfolding isoConnectCode codeOf
+  good-connect h g m = rw (eq-eqb p 6 h) (rw g (rw m refl))
 
 -- the test of the line comes into play where those three give no code
 module _ (rates : List ℕ) (p f r : ℕ) (more : List (Bool × ℕ)) where

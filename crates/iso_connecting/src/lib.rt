@@ -16,14 +16,20 @@ use codes::Answer;
 // The channel number of line 0.
 const FIRST: u32 = 5;
 
-// The code of a connect by its protocol, flags and rate, which is one of those lent: but for the protocol the tests of any connect.
+// The code of a connect by its protocol, flags, a listener's not among them, and rate, which is one of those lent.
 pub fn connect_code(rates: &[u32], protocol: u32, flags: u32, rate: u32) -> u32
     ensures { λ r. ⌜ r ≡ isoConnectCode (now (rates .entry)) protocol flags rate [] ⌝ }
 {
     if protocol != iso_records::PROTOCOL {
         return codes::ERR_INVALID_PROTOCOL_ID;
     }
-    connecting::connect_code(rates, can::PROTOCOL, flags, rate)
+    if !can::is_flags(flags) {
+        return codes::ERR_INVALID_FLAGS;
+    }
+    if !can::is_rate(rates, rate) {
+        return codes::ERR_INVALID_BAUDRATE;
+    }
+    codes::STATUS_NOERROR
 }
 
 // Connect: a closed channel's region becomes that of a fresh one.

@@ -3,7 +3,7 @@
 use mathlib.Core.Path.{_≡_, refl, sym, ap, ap₂, _∙_, subst}
 use Prim.Native.Nat.{ℕ, _+_, _-_, _^_, _≤_, _<_}
 use native.Mathlib.Omega.{arith}
-use mathlib.Core.Bool.{true, false, _&&_, _||_}
+use mathlib.Core.Bool.{true, false, not, _&&_, _||_}
 use mathlib.Core.List.{List, [], _∷_, _++_}
 use lib.ListN.{length, getD, take, drop}
 use lib.Seq.{take-at, drop-drop}
@@ -17,6 +17,7 @@ use Rattle.codec.proofs.Lawful.{such-test, such-under, both-first, both-second}
 use Rattle.codec.proofs.Word.{word-back, word-there}
 use Rattle.machine.specs.Limits.{recordSize, txFlagsIn, sizeIn, dataIn, mostData}
 use Rattle.machine.specs.Message.{bit, idOf, idBytes, Rec, twelve, received}
+use Rattle.machine.specs.Channel.{listens}
 use Rattle.layout.specs.Sizes.{numberSize}
 use Rattle.layout.specs.Record.{row, rec36, recParts, body, dataParts, dataFits, widthFits, outgoing, outCell}
 use Rattle.layout.proofs.Memory.{rec-lawful}
@@ -128,9 +129,10 @@ module _ (m : List ℕ) (o : Outgoing m) where
       let b = member (x .tx) (0 ∷ 0x100 ∷ []) in
       let c = eqb (x .time) 0 in
       let d = widthFits (o .flags) (bit 0x100 (x .tx)) (x .bytes) in
+      let e = not (listens (o .flags)) in
       or-either (eqb (x .tx) 0) (eqb (x .tx) 0x100 || false) (λ e. omega (arith, eqb→eq (x .tx) 0 e))
       (or-either (eqb (x .tx) 0x100) false (λ e. omega (arith, eqb→eq (x .tx) 0x100 e)) (λ e. absurd e))
-      (right a b (left (a && b) c (left (a && b && c) d tests)))
+      (right a b (left (a && b) c (left (a && b && c) d (left (a && b && c && d) e tests))))
 
   pub limits : (wordAt txFlagsIn m ≤ 0x100) × (4 ≤ wordAt sizeIn m) × (wordAt sizeIn m ≤ mostData)
   limits = (omega (arith, tx-is, tx-small), omega (arith, size-is, sized x fine .0), omega (arith, size-is, sized x fine .1))

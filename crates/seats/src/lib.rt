@@ -1,8 +1,9 @@
 // Where the region of a channel is, in a memory of the whole box that is known to be valid, and whether it is a listener's.
-ghost use Prim.Native.Nat.{_≤_, _-_};
+ghost use Prim.Native.Nat.{_+_, _≤_, _-_};
 ghost use mathlib.Core.Path.{_≡_};
 ghost use lib.Dec.{T};
 ghost use lib.ListN.{length};
+ghost use borrow.Rule.Slice.PartMut.{midOf};
 ghost use Rattle.codec.specs.Word.{wordAt};
 ghost use Rattle.machine.specs.Channel.{listens as listensBy};
 ghost use Rattle.layout.specs.Sizes.{regionSize, flagsAt};
@@ -54,10 +55,10 @@ pub fn raw_region_of(mem: &[u8], channel: u32) -> usize
     0
 }
 
-// Is this the region of a listener? What would speak on its line is refused.
-pub fn listens(r: &[u8]) -> bool
-    requires { ⌜ length (now r) ≡ regionSize ⌝ }
-    ensures { λ b. ⌜ b ≡ listensBy (wordAt flagsAt (now (r .entry))) ⌝ }
+// Is the raw channel whose region begins at a place a listener? What would speak out is refused there.
+pub fn listens(mem: &[u8], at: usize) -> bool
+    requires { ⌜ at + regionSize ≤ length (now mem) ⌝ }
+    ensures { λ b. ⌜ b ≡ listensBy (wordAt flagsAt (midOf at (at + regionSize - at) (now (mem .entry)))) ⌝ }
 {
-    can::listens(integers::word_at(r, places::FLAGS))
+    can::listens(integers::word_at(&mem[at..at + places::REGION], places::FLAGS))
 }

@@ -14,7 +14,7 @@ use Rattle.machine.specs.Codes.{codeOf}
 use Rattle.machine.specs.Message.{Rec, idBytes, takes, received, widthFlag}
 use Rattle.machine.specs.Filter.{hits, passes}
 use Rattle.link.specs.Connection.{Offer, passing}
-use Rattle.machine.specs.Channel.{Chan, closed, opened, Open, Call, RawCall, opensLink, sendsLink, receivesLink, endsLink, decides, saves, loads, disconnect, startFilter, startFlow, stopFilter, startPeriodic, stopPeriodic, write, read, takeNext, sent, clear, getParameter, setParameter, lastError, getList, setList, onRaw, Answer, says, Outcome, lent, withConfig, withFilters, withSending, withReceiving, withLink, withLast, unless, doneWith, frameCode, onFrame, heardBy, arrive, reading, onRead, onStartFilter, onStopFilter, onStartPeriodic, onStopPeriodic, onWrite, onAdvance, Next, next, giving, chosen, chosenOr, mayGo, taking, onTake, landed, sending, onSent, onClear, onGet, onSet, setTo, onGetList, onSetList, onRawCall, onLinkOpen, onLinkSend, onLinkReceive, onLinkEnd, onDecide, storeIn, onSave, loaded, onLoad, connectCode, isOpen, onConnect, fresh, onOpen, onCall, isFlags, notes, noted, notedInUse}
+use Rattle.machine.specs.Channel.{Chan, closed, opened, Open, Call, RawCall, opensLink, sendsLink, receivesLink, endsLink, decides, saves, loads, disconnect, startFilter, startFlow, stopFilter, startPeriodic, stopPeriodic, write, read, takeNext, sent, clear, getParameter, setParameter, lastError, getList, setList, onRaw, Answer, says, Outcome, lent, withConfig, withFilters, withSending, withReceiving, withLink, withLast, unless, doneWith, frameCode, onFrame, heardBy, arrive, reading, onRead, onStartFilter, onStopFilter, onStartPeriodic, onStopPeriodic, onWrite, onAdvance, Next, next, giving, chosen, chosenOr, mayGo, taking, onTake, landed, sending, onSent, onClear, onGet, onSet, setTo, onGetList, onSetList, onRawCall, onLinkOpen, onLinkSend, onLinkReceive, onLinkEnd, onDecide, storeIn, onSave, loaded, onLoad, connectCode, isOpen, onConnect, fresh, onOpen, onCall, isRawFlags, muted, notes, noted, notedInUse}
 use Rattle.machine.specs.Channel as chan
 use Rattle.machine.specs.Step.{Event, connect, call, frame, advance, close, chanStep}
 use Rattle.machine.specs.Step as raw-step
@@ -191,27 +191,45 @@ clear-even o k = by (eqb k 1) refl (eqb k 2) refl
     by false p false q = rw (p, q) (if-case {O = Outcome} (λ y. 0 + length (o .receiving .queue) ≡ 0 + 0 + 0 + 0 + heldIn (y .0)) (eqb k 3) _ _ (omega arith)
         (if-case {O = Outcome} (λ y. 0 + length (o .receiving .queue) ≡ 0 + 0 + 0 + 0 + heldIn (y .0)) (eqb k 4) _ _ (omega arith) (omega arith)))
 
+-- every call on an open channel
+open-even : (rates : List ℕ) (now : ℕ) (o : Open) (x : Call) → CallEven (opened o) (countedAs x) (onOpen rates now o x)
+unfolding onOpen countedAs onStartFilter onStopFilter onStartPeriodic onStopPeriodic onWrite onGet onSet setTo onGetList onSetList onSent heldIn queueOf withFilters withSending withConfig doneWith
+open-even rates now o disconnect = disconnect-even o
+open-even rates now o (startFilter t m p) = another-even o _ (stays-unless o _ _ _ refl)
+open-even rates now o (startFlow t m p f) = another-even o _ (stays-unless o _ _ _ refl)
+open-even rates now o (stopFilter n) = another-even o _ (stays-unless o _ _ _ refl)
+open-even rates now o (startPeriodic m i) = another-even o _ (stays-unless o _ _ _ refl)
+open-even rates now o (stopPeriodic n) = another-even o _ (stays-unless o _ _ _ refl)
+open-even rates now o (write n b) = another-even o _ (stays-unless o _ _ _ refl)
+open-even rates now o (read n b) = read-even o n b
+open-even rates now o (takeNext b) = another-even o _ (stays-take o b)
+open-even rates now o sent = sent-even now o (o .sending .flight)
+open-even rates now o (clear k) = clear-even o k
+open-even rates now o (getParameter p) = another-even o _ refl
+open-even rates now o (setParameter p v) = another-even o _ refl
+open-even rates now o lastError = another-even o _ refl
+open-even rates now o (getList ps) = another-even o _ (stays-unless o _ _ _ refl)
+open-even rates now o (setList ps) = another-even o _ (stays-unless o _ _ _ refl)
+open-even rates now o (onRaw x) = another-even o _ (stays-raw o rates x)
+
+-- a call that is refused by an open channel
+mute-even : (o : Open) (x : Counted) (b : List ℕ) → CallEven (opened o) x (opened o, says 0x01 0 b)
+unfolding CallEven one echoes heldIn queueOf isSent readCount isClear2 isDisconnect says openAnd
+mute-even o aSent b = omega arith
+mute-even o aRead b = omega arith
+mute-even o aDisconnect b = omega arith
+mute-even o another b = omega arith
+mute-even o (aClear k) b = by (isClear2 (aClear k))
+  where
+    by : (g : Bool) → 0 + length (o .receiving .queue) ≡ 0 + 0 + (if g && false then length (o .receiving .queue) else 0) + 0 + length (o .receiving .queue)
+    by true = omega arith
+    by false = omega arith
+
 -- every call
 call-even : (rates : List ℕ) (now : ℕ) (c : Chan) (x : Call) → CallEven c (countedAs x) (onCall rates now c x)
-unfolding onCall onOpen countedAs onStartFilter onStopFilter onStartPeriodic onStopPeriodic onWrite onGet onSet setTo onGetList onSetList onSent heldIn queueOf withFilters withSending withConfig doneWith
+unfolding onCall
 call-even rates now closed x = closed-even (countedAs x) (lent x)
-call-even rates now (opened o) disconnect = disconnect-even o
-call-even rates now (opened o) (startFilter t m p) = another-even o _ (stays-unless o _ _ _ refl)
-call-even rates now (opened o) (startFlow t m p f) = another-even o _ (stays-unless o _ _ _ refl)
-call-even rates now (opened o) (stopFilter n) = another-even o _ (stays-unless o _ _ _ refl)
-call-even rates now (opened o) (startPeriodic m i) = another-even o _ (stays-unless o _ _ _ refl)
-call-even rates now (opened o) (stopPeriodic n) = another-even o _ (stays-unless o _ _ _ refl)
-call-even rates now (opened o) (write n b) = another-even o _ (stays-unless o _ _ _ refl)
-call-even rates now (opened o) (read n b) = read-even o n b
-call-even rates now (opened o) (takeNext b) = another-even o _ (stays-take o b)
-call-even rates now (opened o) sent = sent-even now o (o .sending .flight)
-call-even rates now (opened o) (clear k) = clear-even o k
-call-even rates now (opened o) (getParameter p) = another-even o _ refl
-call-even rates now (opened o) (setParameter p v) = another-even o _ refl
-call-even rates now (opened o) lastError = another-even o _ refl
-call-even rates now (opened o) (getList ps) = another-even o _ (stays-unless o _ _ _ refl)
-call-even rates now (opened o) (setList ps) = another-even o _ (stays-unless o _ _ _ refl)
-call-even rates now (opened o) (onRaw x) = another-even o _ (stays-raw o rates x)
+call-even rates now (opened o) x = if-case (CallEven (opened o) (countedAs x)) (muted o x) _ _ (mute-even o (countedAs x) (lent x)) (open-even rates now o x)
 
 -- what is noted is no record
 notes-held : (k : ℕ) (c : Chan) → heldIn (notes k c) ≡ heldIn c
@@ -263,7 +281,7 @@ connect-even rates closed l p f r = by (connectCode rates p f r ((false, 0x14) �
     by : (k : ℕ) → heldIn (unless k closed [] (doneWith (fresh f r) (l + 1)) .0) ≡ 0
     by zero = refl
     by (suc k) = refl
-connect-even rates (opened o) l p f r = by (not (eqb p 5)) (not (isFlags f)) (not (member r rates))
+connect-even rates (opened o) l p f r = by (not (eqb p 5)) (not (isRawFlags f)) (not (member r rates))
   where
     by : (g h k : Bool) → heldIn (unless (if g then 0x03 else if h then 0x06 else if k then 0x19 else 0x14) (opened o) [] (doneWith (fresh f r) (l + 1)) .0) ≡ heldIn (opened o)
     by true h k = refl

@@ -14,7 +14,7 @@ use Rattle.machine.specs.Limits.{mostToRead, recordSize}
 use Rattle.machine.specs.Codes.{codeOf}
 use Rattle.machine.specs.Message.{Rec, idBytes}
 use Rattle.machine.specs.Filter.{taken}
-use Rattle.machine.specs.Channel.{Chan, closed, opened, Open, Call, disconnect, read, sent, clear, Answer, says, unless, doneWith, frameCode, shorter, reading, onRead, sending, onSent, onClear, onOpen, onCall, noted}
+use Rattle.machine.specs.Channel.{Chan, closed, opened, Open, Call, disconnect, read, sent, clear, Answer, says, unless, doneWith, frameCode, shorter, reading, onRead, sending, onSent, onClear, onOpen, onCall, noted, listens, lent}
 use Rattle.machine.specs.Step.{Event, connect, call, frame, advance, close}
 use Rattle.machine.specs.Step as raw-step
 use Rattle.machine.specs.Demands.{queueOf}
@@ -94,17 +94,22 @@ module _ (rates : List ℕ) (now : ℕ) where
   read-shape n m e (opened o) = ap {B = List ℕ} (λ (k : ℕ). 0 ∷ 0 ∷ 0 ∷ 0 ∷ 0 ∷ 0 ∷ 0 ∷ k ∷ 0 ∷ 0 ∷ 0 ∷ []) (read-count o n m e)
 
   sent-shape : (c : Chan) → shape true aSent c (says-to rates now c sent) ≡ echoAdds c
-  unfolding shape one echoes isSent readCount isClear2 isDisconnect echoAdds wouldEcho openAnd taken cell plus heldIn queueOf noted onCall onOpen onSent sending doneWith says
+  unfolding shape one echoes isSent readCount isClear2 isDisconnect echoAdds wouldEcho openAnd taken cell plus heldIn queueOf noted onCall onOpen onSent sending doneWith lent says
   sent-shape closed = refl
-  sent-shape (opened o) = by (o .sending .flight) (o .config .loopback) (leb mostToRead (length (o .receiving .queue)))
+  sent-shape (opened o) = by (listens (o .config .flags)) (o .sending .flight) (o .config .loopback) (leb mostToRead (length (o .receiving .queue)))
     where
-      by : (f : Option Rec) (g h : Bool)
-          → 0 ∷ 0 ∷ 0 ∷ 0 ∷ 0 ∷ one (eqb (sending now o f .1 .code) 0x00 && g) ∷ (0 + one ((eqb (sending now o f .1 .code) 0x00 && g) && h)) ∷ 0 ∷ 0 ∷ (0 + 0) ∷ 0 ∷ []
-          ≡ (if taken f && g then plus (cell 5 1) (cell atLost (one h)) else nothing)
-      by none g h = refl
-      by (some r) true true = refl
-      by (some r) true false = refl
-      by (some r) false h = refl
+      -- its code: a listener's sent is refused
+      code : Bool → Option Rec → ℕ
+      code l f = (if l then (opened o, says 0x01 0 []) else sending now o f) .1 .code
+
+      by : (l : Bool) (f : Option Rec) (g h : Bool)
+          → 0 ∷ 0 ∷ 0 ∷ 0 ∷ 0 ∷ one (eqb (code l f) 0x00 && g) ∷ (0 + one ((eqb (code l f) 0x00 && g) && h)) ∷ 0 ∷ 0 ∷ (0 + 0) ∷ 0 ∷ []
+          ≡ (if not l && (taken f && g) then plus (cell 5 1) (cell atLost (one h)) else nothing)
+      by true f g h = refl
+      by false none g h = refl
+      by false (some r) true true = refl
+      by false (some r) true false = refl
+      by false (some r) false h = refl
 
 closing : (i : ℕ) (c : Chan) (a : Answer) → block i c close a ≡ heldAt atDropped c
 unfolding block heldAt cell numbers.offered numbers.width numbers.unmatched numbers.blocked numbers.passed numbers.echoed numbers.lost numbers.reads numbers.cleared numbers.dropped numbers.good numbers.ofCall numbers.isClose one

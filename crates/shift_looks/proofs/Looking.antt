@@ -8,13 +8,15 @@ use lib.ListN.{length, getD, take, drop}
 use lib.Seq.{getD-take, getD-drop}
 use lib.Dec.{T, eqb}
 use Rattle.codec.specs.Code.{slot, via, getSlot, markOf}
+use Rattle.codec.proofs.Tests.{T-true, and-false}
 use Rattle.machine.specs.Limits.{mostToRead}
 use Rattle.machine.specs.Filter.{taken}
-use Rattle.machine.specs.Channel.{closed, Open}
+use Rattle.machine.specs.Channel.{closed, listens, Open}
 use Rattle.machine.specs.Demands.{queueOf}
 use Rattle.layout.specs.Sizes.{regionSize, receivingAt, receivingSize, flightAt, loopbackAt}
 use Rattle.layout.specs.Memory.{chanBack, openPart, region}
 use Rattle.layout.specs.Promise.{Opened}
+use Rattle.layout.proofs.Held.{out-sound}
 use Rattle.layout.proofs.Region.{openOf, is-open, mark-of, loopback-part}
 use Rattle.queue.proofs.Bytes.{count-few}
 use Rattle.queue.proofs.Laws.{part, fine, held}
@@ -67,10 +69,16 @@ module _ (r : List ℕ) (long : length r ≡ regionSize) (v : T (region .valid r
 
     pub empty-silent : getD r flightAt 0 ≡ 0 → false ≡ wouldEcho (region .get r)
     unfolding wouldEcho openAnd taken
-    empty-silent z = sym (ap wouldEcho (is-open r (open-there n)) ∙ ap (λ f. taken f && o .config .loopback) (none-flies (open-there n) z))
+    empty-silent z =
+        sym (ap wouldEcho (is-open r (open-there n)) ∙ ap (λ f. not (listens (o .config .flags)) && (taken f && o .config .loopback)) (none-flies (open-there n) z)
+        ∙ and-false (not (listens (o .config .flags))))
+
+    -- what is in flight is no listener's
+    speaks : (getD r flightAt 0 ≡ 0 → ⊥) → not (listens (o .config .flags)) ≡ true
+    speaks z = let f = flies (open-there n) z in T-true _ (out-sound (o .config .flags) (f .one) (f .held) .speaks)
 
     pub by-loopback : (getD r flightAt 0 ≡ 0 → ⊥) → (b : Bool) → b ≡ not (eqb (getD r loopbackAt 0) 0) → b ≡ wouldEcho (region .get r)
     unfolding wouldEcho openAnd taken
     by-loopback z b e =
         e ∙ ap (λ (k : ℕ). not (eqb k 0)) (mark-of (loopback-part r (open-there n))) ∙ mark-shows (o .config .loopback)
-        ∙ sym (ap wouldEcho (is-open r (open-there n)) ∙ ap (λ f. taken f && o .config .loopback) (flies (open-there n) z .is))
+        ∙ sym (ap wouldEcho (is-open r (open-there n)) ∙ (λ j. speaks z j && (taken (flies (open-there n) z .is j) && o .config .loopback)))

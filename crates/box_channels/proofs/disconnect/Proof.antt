@@ -20,7 +20,7 @@ returns-2 c rates =
     let at = did .before .before .before .before in
     let seat = at .region-of .ensures .raw (did .before .before .before .if1 .left) (did .before .before .if2 .taken) in
     let long : length (did .disconnect-in .last .0) ≡ regionSize = omega arith in
-    raw-called _ (at .before .before .before .pre) _ _ seat rates _ _ _ _ _ _ long (did .disconnect-in .ensures rates _) refl
+    raw-called _ (at .before .before .before .pre) _ _ seat rates _ refl _ _ _ _ _ long (did .disconnect-in .ensures rates _) refl
 
 returns-3 : tie.Need-returns-3
 unfolding notedIn

@@ -20,7 +20,7 @@ returns-2 c rates =
     let did = c .before .before .before .before in
     let at = did .before .before .before .before .before in
     let seat = at .region-of .ensures .raw (did .before .before .before .before .if1 .left) (did .before .before .before .if2 .taken) in
-    raw-looked _ (at .before .before .before .pre) _ _ seat rates _ _ _ _ (did .get-in .ensures rates _) _ (c .before .before .note .ensures)
+    raw-looked _ (at .before .before .before .pre) _ _ seat rates _ refl _ _ _ (did .get-in .ensures rates _) _ (c .before .before .note .ensures)
 
 note-requires-2 : tie.Need-note-requires-2
 note-requires-2 c κs =

@@ -15,7 +15,7 @@ unfolding raw-promise.notedIn
 returns-2 c rates =
     let at = c .before .before .before .before in
     let seat = at .region-of .ensures .raw (c .before .before .before .if1 .left) (c .before .before .if2 .taken) in
-    raw-looked _ (at .before .before .pre) _ _ seat rates _ _ _ _ (c .last-in .ensures rates _) _ refl
+    raw-looked _ (at .before .before .pre) _ _ seat rates _ refl _ _ _ (c .last-in .ensures rates _) _ refl
 
 returns-3 : tie.Need-returns-3
 unfolding notedIn

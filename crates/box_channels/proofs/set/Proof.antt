@@ -24,7 +24,7 @@ returns-2 c =
     let at = did .before .before .before .before in
     let seat = at .region-of .ensures .raw (did .before .before .before .if1 .left) (did .before .before .if2 .taken) in
     let long : length (did .set-in .last .0) ≡ regionSize = omega arith in
-    raw-called _ (at .before .before .before .before .pre) _ _ seat _ _ _ _ _ _ _ long (did .set-in .ensures _) (c .before .before .note .ensures)
+    raw-called _ (at .before .before .before .before .pre) _ _ seat _ _ refl _ _ _ _ _ long (did .set-in .ensures _) (c .before .before .note .ensures)
 
 note-requires-2 : tie.Need-note-requires-2
 note-requires-2 c κs =

@@ -26,7 +26,7 @@ returns-2 c rates =
     let at = did .before .before .before .before in
     let seat = at .region-of .ensures .raw (did .before .before .before .if1 .left) (did .before .before .if2 .taken) in
     let long : length (did .start-filter .last .0) ≡ regionSize = omega arith in
-    raw-called _ (at .before .before .before .before .before .before .pre) _ _ seat rates _ _ _ _ _ _ long (did .start-filter .ensures rates _ ∙ no-look _ _ _ _ _ _ _) (c .before .before .note .ensures)
+    raw-called _ (at .before .before .before .before .before .before .pre) _ _ seat rates _ refl _ _ _ _ _ long (did .start-filter .ensures rates _ ∙ no-look _ _ _ _ _ _ _) (c .before .before .note .ensures)
 
 note-requires-2 : tie.Need-note-requires-2
 note-requires-2 c κs =

@@ -23,7 +23,7 @@ returns-2 c =
     let at = did .before .before .before in
     let seat = at .raw-region-of .ensures .seat (did .before .before .if1 .left) in
     let long : length (did .load-in .last .0) ≡ regionSize = omega arith in
-    raw-called _ (at .before .before .before .before .before .pre) _ _ seat _ _ _ _ _ _ _ long (did .load-in .ensures _) (c .before .before .note .ensures)
+    raw-called _ (at .before .before .before .before .before .pre) _ _ seat _ _ refl _ _ _ _ _ long (did .load-in .ensures _) (c .before .before .note .ensures)
 
 pub load-spec : {M : Type 1} → statement M
 unfolding lent rawLent

@@ -20,7 +20,7 @@ returns-2 c rates =
     let did = c .before .before .before .before .before .before in
     let at = did .before .before .before .before .before in
     let seat = at .raw-region-of .ensures .seat (did .before .before .before .before .if1 .left) in
-    raw-looked _ (at .before .before .before .before .pre) _ _ seat rates _ _ _ _ (did .save-in .ensures rates _) _ (c .before .before .note .ensures)
+    raw-looked _ (at .before .before .before .before .pre) _ _ seat rates _ refl _ _ _ (did .save-in .ensures rates _) _ (c .before .before .note .ensures)
 
 pub save-spec : {M : Type 1} → statement M
 unfolding lent rawLent
