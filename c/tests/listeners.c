@@ -322,6 +322,12 @@ static void valid_ones(uint32_t flags) {
         EACH(stop_periodic(MEMORY, 1, i) == 0x00);
     }
     may_listen(flags);
+    EACH(start_periodic(MEMORY, 1, r, RAW_RECORD, 65535, &v) == 0x00);
+    EACH(take(MEMORY, 1, records, RAW_RECORD) == 0x00);
+    EACH(sent(MEMORY, 1) == 0x00);
+    never_held(flags); /* not pending */
+    EACH(clear(MEMORY, 1, 3) == 0x00);
+    may_listen(flags);
     if (wide) return;
     EACH(link_open(MEMORY, 1, 0x200, 0x01, 0x300, 0x01, 15, 0x8A, 0x00) == 0x00);
     never_held(flags);
