@@ -1,5 +1,5 @@
-/* Listeners: `listeners [SEED [ROUNDS]]`. Stories worked out by hand, told to all sides (iso_side.h): what a listener doesn't do, what it does, an ISO
- * 15765 channel beside it, which memories of one are valid. Then random calls on two boxes that differ in the listeners' flag alone: what doesn't
+/* Listeners: `listeners [SEED [ROUNDS]]`. Stories worked out by hand, told to all sides (iso_side.h): what a listener doesn't do, what it does, an
+ * ISO 15765 channel beside it, which memories of one are valid. Then random calls on two boxes that differ in the listeners' flag alone: what doesn't
  * send must be answered alike and change the same, and what sends must be refused. */
 #include <stdio.h>
 #include <stdlib.h>

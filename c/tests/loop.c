@@ -114,6 +114,25 @@ static void hands(uint32_t id) {
     must(handed[1] == was + 1 && last[1] == id, "the channels take turns");
 }
 
+/* a listener in the place of a raw channel: the loop asks it too, and hands over what the other channel of the line has; frames that come are read */
+static void listens(uint32_t channel) {
+    uint8_t every[TRAWL_RECORD];
+    uint32_t number;
+    trawl_record_make(every, 0, 0, NULL, 0);
+    wire(), step(), wire();
+    trawl_disconnect(box, sizeof box, channel), step();
+    trawl_connect(box, sizeof box, 1, TRAWL_CAN, TRAWL_LISTEN_ONLY, 500000, &channel);
+    trawl_start_filter(box, sizeof box, channel, TRAWL_PASS_FILTER, every, sizeof every, every, sizeof every, &number);
+    message(), hands(0x241);
+    partner_says(0x641, "\x30\0\0", 3), arriving[1] = 1, hands(0x241);
+    wire(), step();
+    must(trawl_read(box, sizeof box, 6, 1, record, sizeof record, &number) == 0 && trawl_record_tx_done(record) == 1, "the message is sent");
+    must(read_one(channel) == 1 && trawl_record_identifier(record) == 0x641, "the partner's frame");
+    must(read_one(channel) == 1 && trawl_record_identifier(record) == 0x7E8, "another frame");
+    step();
+    must(trawl_last_error(box, sizeof box, channel, &number) == 0 && number == TRAWL_ERR_NOT_SUPPORTED, "a listener's take");
+}
+
 int main(void) {
     uint8_t every[TRAWL_RECORD];
     uint32_t channel, number;
@@ -176,20 +195,7 @@ int main(void) {
     hands(0x640), hands(0x640);
     partner_says(0x300, "\xB2", 1), wire(), step();
     must(trawl_link_send(box, sizeof box, channel, (const uint8_t *)"more", 4) == 0, "the message is acknowledged");
-
-    /* a listener in its place: the loop asks it too and hands over what the other channel of the line has; frames that come are read */
-    wire(), step(), wire();
-    trawl_disconnect(box, sizeof box, channel), step();
-    trawl_connect(box, sizeof box, 1, TRAWL_CAN, TRAWL_LISTEN_ONLY, 500000, &channel);
-    trawl_start_filter(box, sizeof box, channel, TRAWL_PASS_FILTER, every, sizeof every, every, sizeof every, &number);
-    message(), hands(0x241);
-    partner_says(0x641, "\x30\0\0", 3), arriving[1] = 1, hands(0x241);
-    wire(), step();
-    must(trawl_read(box, sizeof box, 6, 1, record, sizeof record, &number) == 0 && trawl_record_tx_done(record) == 1, "the message is sent");
-    must(read_one(channel) == 1 && trawl_record_identifier(record) == 0x641, "the partner's frame");
-    must(read_one(channel) == 1 && trawl_record_identifier(record) == 0x7E8, "another frame");
-    step();
-    must(trawl_last_error(box, sizeof box, channel, &number) == 0 && number == TRAWL_ERR_NOT_SUPPORTED, "a listener's take");
+    listens(channel);
     printf("the header's loop: %lu looks\n", held);
     return 0;
 }
