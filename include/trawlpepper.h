@@ -46,7 +46,7 @@ extern "C" {
 /* The version of this header and of the archive built from the same sources. The first number changes when a program or a kept memory that was
  * good may be so no more, the second when something is added, the third with everything else. TRAWL_VERSION is for comparing. */
 #define TRAWL_VERSION_MAJOR 7
-#define TRAWL_VERSION_MINOR 1
+#define TRAWL_VERSION_MINOR 2
 #define TRAWL_VERSION_PATCH 0
 #define TRAWL_VERSION (TRAWL_VERSION_MAJOR * 10000 + TRAWL_VERSION_MINOR * 100 + TRAWL_VERSION_PATCH)
 
@@ -69,12 +69,12 @@ extern "C" {
 
 /* Codes, by J2534-1's names. */
 #define TRAWL_STATUS_NOERROR 0x00u
-#define TRAWL_ERR_NOT_SUPPORTED 0x01u         /* unknown configuration parameter; a periodic on channels 5 to 8 */
+#define TRAWL_ERR_NOT_SUPPORTED 0x01u         /* unknown configuration parameter; a periodic on channels 5 to 8; a listener doesn't send */
 #define TRAWL_ERR_INVALID_CHANNEL_ID 0x02u    /* channel number not 1 to 8 (TP2.0, decide, save, load: 1 to 4), or not open */
 #define TRAWL_ERR_INVALID_PROTOCOL_ID 0x03u   /* connect: protocol is not 5 or 6 */
 #define TRAWL_ERR_NULL_PARAMETER 0x04u        /* lent buffer too short (TP2.0: under 512; save: for the store); over 16 pairs */
 #define TRAWL_ERR_INVALID_IOCTL_VALUE 0x05u   /* bad value for a known parameter */
-#define TRAWL_ERR_INVALID_FLAGS 0x06u         /* connect: a flag other than 0x100, 0x800 */
+#define TRAWL_ERR_INVALID_FLAGS 0x06u         /* connect: a flag other than 0x100, 0x800 and, on raw CAN, 0x10000000 */
 #define TRAWL_ERR_FAILED 0x07u                /* sent with nothing in flight; no TP2.0 connection stands */
 #define TRAWL_ERR_TIMEOUT 0x09u               /* read: some records, fewer than asked (a result) */
 #define TRAWL_ERR_INVALID_MSG 0x0Au           /* bad message, frame, telegram or store; TP2.0: bad fields, no narrow frames */
@@ -95,11 +95,12 @@ extern "C" {
 #define TRAWL_ERR_INVALID_DEVICE_ID 0x1Au     /* device memory of the wrong size, or not valid */
 
 /* Protocols, connection flags, filter types, parameters; RxStatus bits of a record (TX_MSG_TYPE of an echo, START_OF_MESSAGE of RxStart, both
- * TX_INDICATION and TX_MSG_TYPE of TxDone). CAN_29BIT_ID is a bit of RxStatus and TxFlags too. */
+ * TX_INDICATION and TX_MSG_TYPE of TxDone). CAN_29BIT_ID is a bit of RxStatus and TxFlags too. LISTEN_ONLY is the box's own, and not J2534-1's. */
 #define TRAWL_CAN 5u
 #define TRAWL_ISO15765 6u
 #define TRAWL_CAN_29BIT_ID 0x100u
 #define TRAWL_CAN_ID_BOTH 0x800u
+#define TRAWL_LISTEN_ONLY 0x10000000u
 #define TRAWL_PASS_FILTER 1u
 #define TRAWL_BLOCK_FILTER 2u
 #define TRAWL_FLOW_CONTROL_FILTER 3u
@@ -279,6 +280,16 @@ static inline uint32_t trawl_clear_kind(uint32_t ioctl) {
  *   connection that takes both widths it takes two filters to let all in.
  *   - A channel has at most ten, pass and block together. Starting and stopping filters leaves what is queued. */
 
+/* ---- listeners ----
+ *
+ *   - A raw channel connected with TRAWL_LISTEN_ONLY, alone or beside CAN_29BIT_ID and CAN_ID_BOTH, sends nothing until it is disconnected. Write,
+ *   take, sent, start periodic and the four calls of a TP2.0 connection answer 0x01 there, straight after 0x02 and whatever else is wrong, a write of
+ *   no records too. Such a refusal changes nothing but the last code.
+ *   - Everything else is as on any raw channel: filters, frames, read, clear, stop periodic (0x0D, there are none), get, set and their lists,
+ *   decide, save, load. Loopback can be set, and has nothing to echo. Periodics can't be loaded (0x0A).
+ *   - The ISO 15765 channel of the line may be open beside it, and sends as ever. What the controller itself puts on the line, as an acknowledgement
+ *   of the frames that it hears, is the driver's matter. */
+
 /* ---- ISO 15765 channels, 5 to 8 ----
  *
  *   - A filter is a conversation with one partner: its pattern is the identifier that the partner sends with, its flow the one that the box sends
@@ -301,9 +312,9 @@ static inline uint32_t trawl_clear_kind(uint32_t ioctl) {
 
 /* ---- TP2.0 connections of channels 1 to 4 ----
  *
- *   - A raw channel that takes narrow frames may hold one connection to a module (SAE J2819), which the box opens: four at once, one on each line.
- *   trawl_link_open begins it, and the box makes and understands all telegrams, through take, sent, frame and advance like everything else. Whether
- *   it stands trawl_link_receive tells: 0x10 and not 0x07.
+ *   - A raw channel that takes narrow frames and is no listener may hold one connection to a module (SAE J2819), which the box opens: four at once,
+ *   one on each line. trawl_link_open begins it, and the box makes and understands all telegrams, through take, sent, frame and advance like
+ *   everything else. Whether it stands trawl_link_receive tells: 0x10 and not 0x07.
  *   - Opening: a set-up on your identifier, sent again each 100 ms without a reply, eleven in all; then the connection set-up on the TX-ID of the
  *   reply, as often. A negative reply, or none to the last, ends it, and no code tells but 0x07 at the next call. Replies are those of 0x200 plus
  *   the destination, to the low byte of your identifier, with your RX-ID and application.
@@ -373,8 +384,9 @@ uint32_t trawl_power_on(uint8_t *memory, size_t memory_length);
  * channel, the line plus 5. Each may be open without the other, and has its own flags and rate. The new channel is empty: no filters, no periodics,
  * nothing queued, loopback 0, no last code. Refused with 0x14 it leaves that code with the channel, which is open; refused with another it leaves
  * nothing.
- * Codes: 0x1A; 0x03 protocol is not 5 or 6; 0x06 a flag bit other than 0x100 and 0x800; 0x19 rate is not 250000 or 500000 (125000 is retired);
- * 0x13 line over 3; 0x14 that channel is open. */
+ * Flags are CAN_29BIT_ID and CAN_ID_BOTH, each or both or none, and with protocol 5 also TRAWL_LISTEN_ONLY, which makes a listener.
+ * Codes: 0x1A; 0x03 protocol is not 5 or 6; 0x06 a flag bit other than 0x100, 0x800 and, with protocol 5, 0x10000000; 0x19 rate is not 250000 or
+ * 500000 (125000 is retired); 0x13 line over 3; 0x14 that channel is open. */
 uint32_t trawl_connect(uint8_t *memory, size_t memory_length, uint32_t line, uint32_t protocol, uint32_t flags, uint32_t rate,
                        uint32_t *channel);
 
@@ -428,9 +440,10 @@ uint32_t trawl_start_flow_filter(uint8_t *memory, size_t memory_length, uint32_t
 uint32_t trawl_stop_filter(uint8_t *memory, size_t memory_length, uint32_t channel, uint32_t number);
 
 /* Starts a periodic; message is a record, which is copied, interval 5 to 65,535 milliseconds. It is pending at once and then at each whole multiple
- * of the interval after its start, however late it is taken or sent. Gives its number, the smallest free one of 1 to 10. Channels 5 to 8 have none.
- * Codes: 0x1A; 0x02; 0x04 message under R bytes; 0x01 channels 5 to 8; 0x0B interval not 5 to 65,535; 0x15 protocol is not 5; 0x0A size not 4 to
- * 12, a width that the connection doesn't take, or an identifier too large for its width; 0x0C ten periodics exist on the channel. */
+ * of the interval after its start, however late it is taken or sent. Gives its number, the smallest free one of 1 to 10. Listeners and channels 5 to
+ * 8 have none.
+ * Codes: 0x1A; 0x02; 0x01 a listener; 0x04 message under R bytes; 0x01 channels 5 to 8; 0x0B interval not 5 to 65,535; 0x15 protocol is not 5; 0x0A
+ * size not 4 to 12, a width that the connection doesn't take, or an identifier too large for its width; 0x0C ten periodics exist on the channel. */
 uint32_t trawl_start_periodic(uint8_t *memory, size_t memory_length, uint32_t channel, const uint8_t *message, size_t message_length,
                               uint32_t interval, uint32_t *number);
 
@@ -439,11 +452,11 @@ uint32_t trawl_start_periodic(uint8_t *memory, size_t memory_length, uint32_t ch
 uint32_t trawl_stop_periodic(uint8_t *memory, size_t memory_length, uint32_t channel, uint32_t number);
 
 /* Queues the first n records of a buffer of at least R * n bytes for sending, in order, until one is refused or 16 (channels 5 to 8: 4) are held;
- * they are copied. Gives how many were queued, and the code of the record that stopped it. With n = 0 the answer is 0x00.
- * Codes: 0x1A; 0x02; 0x04 under R * n bytes; then for each record 0x15 protocol is not the channel's; 0x0A size not 4 to 12 (channels 5 to 8: 5 to
- * 512), a width that the connection doesn't take, or an identifier too large for its width; 0x17 channels 5 to 8: size over 11, and no filter has
- * this identifier and width as its flow; 0x11 as many are held. A code with a count above 0 is no refusal: lend the rest again later, from the
- * record that stopped it. */
+ * they are copied. Gives how many were queued, and the code of the record that stopped it. With n = 0 the answer is 0x00, but on a listener 0x01.
+ * Codes: 0x1A; 0x02; 0x01 a listener; 0x04 under R * n bytes; then for each record 0x15 protocol is not the channel's; 0x0A size not 4 to 12
+ * (channels 5 to 8: 5 to 512), a width that the connection doesn't take, or an identifier too large for its width; 0x17 channels 5 to 8: size over
+ * 11, and no filter has this identifier and width as its flow; 0x11 as many are held. A code with a count above 0 is no refusal: lend the rest again
+ * later, from the record that stopped it. */
 uint32_t trawl_write(uint8_t *memory, size_t memory_length, uint32_t channel, uint32_t n, const uint8_t *records, size_t records_length,
                      uint32_t *count);
 
@@ -459,14 +472,14 @@ uint32_t trawl_read(uint8_t *memory, size_t memory_length, uint32_t channel, uin
  * channels 5 to 8: else the flow frame that a partner waits for, that of filter 1 first; else the next frame of the message under way, if the
  * partner lets it go and the pause that it asked for is over; else, where none is under way, the first frame of the oldest written message, if its
  * conversation is free.
- * Codes: 0x1A; 0x02; 0x04 under R bytes, whatever waits; 0x10 no frame. */
+ * Codes: 0x1A; 0x02; 0x01 a listener; 0x04 under R bytes, whatever waits; 0x10 no frame. */
 uint32_t trawl_take(uint8_t *memory, size_t memory_length, uint32_t channel, uint8_t *buffer, size_t buffer_length);
 
 /* The frame in flight is on the line: the flight is empty. On channels 1 to 4, with loopback on, its echo is queued for reading, with the clock as
  * its timestamp, past all filters; of a TP2.0 telegram its connection's times run from now. On channels 5 to 8 the message goes on; with its last
  * frame TxDone is queued, and with loopback on the message as its echo behind it. Where 32 records (8) wait a record is lost, the lost mark is set,
  * and 0x00 is the answer all the same.
- * Codes: 0x1A; 0x02; 0x07 nothing in flight. */
+ * Codes: 0x1A; 0x02; 0x01 a listener; 0x07 nothing in flight. */
 uint32_t trawl_sent(uint8_t *memory, size_t memory_length, uint32_t channel);
 
 /* Empties one of four things, TRAWL_CLEAR_WRITTEN and so on; none of them touches the flight or a TP2.0 connection. On channels 5 to 8 the filters
@@ -543,7 +556,8 @@ uint32_t trawl_save(uint8_t *memory, size_t memory_length, uint32_t channel, uin
  *   - A store of version 2, loaded and saved again, is the same byte for byte. One of version 1 loads on flags 0 alone.
  *   - A store is bad where its form is another: filters or periodics not in order, a number of theirs over 10, a number in more bytes than it needs,
  *   a record that isn't clean, a byte more or less, a first number other than 1 and 2. So it is where it holds what trawl_start_filter,
- *   trawl_start_periodic or trawl_set would refuse on the channel: a type, size, width, identifier, interval, rate (125000 too) or loopback.
+ *   trawl_start_periodic or trawl_set would refuse on the channel: a type, size, width, identifier, interval, rate (125000 too) or loopback; with the
+ *   flag of a listener any periodic.
  *   code = trawl_load(box, sizeof box, channel, store, length);
  * Codes: 0x1A; 0x02 channel not 1 to 4, or not open; 0x0A a bad store, or other flags. */
 uint32_t trawl_load(uint8_t *memory, size_t memory_length, uint32_t channel, const uint8_t *store, size_t store_length);
@@ -552,32 +566,32 @@ uint32_t trawl_load(uint8_t *memory, size_t memory_length, uint32_t channel, con
  * module's address, 0x00 to 0xEF; rx_id the identifier that the module is to send with, 0 to 0x7FF; application 0x01, 0x10, 0x20 or 0x21; block_size
  * 1 to 15; t1 and t3 time bytes (trawl_time), 0 to 255: how long the box waits for an acknowledgement, 0xFF for ever, and how far apart the module is
  * to send. J2819 wants t1 above four times t3; the box doesn't look at that.
- * Codes: 0x1A; 0x02 channel not 1 to 4, or not open; 0x0A the channel doesn't take narrow frames, or another field; 0x14 a connection is there: it
- * opens, stands, or its disconnect telegram is not yet sent. */
+ * Codes: 0x1A; 0x02 channel not 1 to 4, or not open; 0x01 a listener; 0x0A the channel doesn't take narrow frames, or another field; 0x14 a
+ * connection is there: it opens, stands, or its disconnect telegram is not yet sent. */
 uint32_t trawl_link_open(uint8_t *memory, size_t memory_length, uint32_t channel, uint32_t own, uint32_t destination, uint32_t rx_id,
                          uint32_t application, uint32_t block_size, uint32_t t1, uint32_t t3);
 
 /* Sends a message over the connection that stands; all of what is lent, 1 to 512 bytes, which are copied. It is under way until its last telegram is
  * acknowledged, and then another may be sent.
- * Codes: 0x1A; 0x02; 0x0A the channel doesn't take narrow frames; 0x07 no connection stands; 0x0A 0 bytes, or more than 512; 0x11 a message is
- * under way. */
+ * Codes: 0x1A; 0x02; 0x01 a listener; 0x0A the channel doesn't take narrow frames; 0x07 no connection stands; 0x0A 0 bytes, or more than 512; 0x11
+ * a message is under way. */
 uint32_t trawl_link_send(uint8_t *memory, size_t memory_length, uint32_t channel, const uint8_t *message, size_t message_length);
 
 /* Moves the complete message that was received to the start of a buffer of at least 512 bytes; the bytes behind it stay. Gives its length, 1 to 512.
- * Codes: 0x1A; 0x02; 0x04 under 512 bytes, whatever waits; 0x0A the channel doesn't take narrow frames; 0x07 no connection stands; 0x10 it stands,
- * and no message is complete. */
+ * Codes: 0x1A; 0x02; 0x01 a listener; 0x04 under 512 bytes, whatever waits; 0x0A the channel doesn't take narrow frames; 0x07 no connection stands;
+ * 0x10 it stands, and no message is complete. */
 uint32_t trawl_link_receive(uint8_t *memory, size_t memory_length, uint32_t channel, uint8_t *buffer, size_t buffer_length,
                             uint32_t *length);
 
 /* Ends the connection. While the set-up has no reply it is gone at once; later what was to be sent is dropped, and the disconnect telegram waits at
  * take.
- * Codes: 0x1A; 0x02; 0x0A the channel doesn't take narrow frames; 0x07 no connection, or its disconnect telegram waits already. */
+ * Codes: 0x1A; 0x02; 0x01 a listener; 0x0A the channel doesn't take narrow frames; 0x07 no connection, or its disconnect telegram waits already. */
 uint32_t trawl_link_end(uint8_t *memory, size_t memory_length, uint32_t channel);
 
 /* The last code of a channel: of the last call on it that was not answered 0x00, or 0 where all were since it was connected. It is what
  * PassThruGetLastError asks for, of one channel and as a number.
  *   - Every code but 0x00 counts, results too: a read's 0x09, 0x10 and 0x12, a write's code with a count above 0, a take's 0x10, so that a loop
- *   which polls take leaves 0x10 here. A list is one call with one code. 0x00 leaves it as it was.
+ *   which polls take leaves 0x10 here, of a listener 0x01. A list is one call with one code. 0x00 leaves it as it was.
  *   - The calls are those of this section, and a connect that is answered 0x14. Frames and advances leave it, whatever their code; so do a connect
  *   with another refusal, and 0x1A and 0x02, since they concern no open channel. Disconnect and close end it with the channel.
  *   - Asking writes nothing but the number, and is itself no such call.

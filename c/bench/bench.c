@@ -1,7 +1,7 @@
 /* The core against the twin in one run: nanoseconds a call, best of many, and the ratio. `bench [RUNS]`. Devices: idle (four raw channels, nothing
  * else), typical (three filters, three records, two periodics and two written records a raw channel), full, both (typical, and the four ISO 15765
- * channels with two conversations each under way), linked (idle, and on each raw channel a TP2.0 connection that stands), and hard (idle, and on each
- * raw channel the ten filters that are hardest to decide on by the identifier alone). */
+ * channels with two conversations each under way), linked (idle, and on each raw channel a TP2.0 connection that stands), hard (idle, and on each raw
+ * channel the ten filters that are hardest to decide on by the identifier alone), and listeners (idle, with three filters a channel). */
 #define _POSIX_C_SOURCE 199309L
 #include <stdio.h>
 #include <stdlib.h>
@@ -58,13 +58,15 @@ static void one_filter(uint8_t *mask, uint8_t *pattern, uint32_t i, uint32_t n) 
     record(pattern, filter_size, (i + 1 == n ? 0x7E8 : 0x700 + i) & filter_mask);
 }
 
+static uint32_t device_flags = 0; /* of its raw channels */
+
 /* a channel's filters let 0x7E8 in by the last one */
 static void device(uint8_t *m, uint32_t filters, uint32_t records, uint32_t periodics, uint32_t written) {
     uint8_t mask[36], pattern[36];
     uint32_t v;
     twin_power_on(m, MEMORY);
     for (uint32_t line = 0; line < 4; line++) {
-        twin_connect(m, MEMORY, line, 5, 0, 500000, &v);
+        twin_connect(m, MEMORY, line, 5, device_flags, 500000, &v);
         for (uint32_t i = 0; i < filters; i++) {
             one_filter(mask, pattern, i, filters);
             twin_start_filter(m, MEMORY, line + 1, 1, mask, 36, pattern, 36, &v);
@@ -277,6 +279,19 @@ static void saving(const uint8_t *typical, const uint8_t *full) {
     set_ups("save, full", "load, full", full);
 }
 
+/* four listeners, and beside them four channels that are none and have the same filters */
+static void listeners(void) {
+    static uint8_t quiet[MEMORY], others[MEMORY];
+    device(others, 3, 0, 0, 0);
+    device_flags = TRAWL_LISTEN_ONLY, device(quiet, 3, 0, 0, 0), device_flags = 0;
+    printf("\nlisteners: ns a call           core     twin    ratio   (validating)\n");
+    row("valid, four listen", core_valid, (loop)twin_run_valid, quiet, 0);
+    row("frame and read of 1", core_frame_read, twin_run_frame_read, quiet, 0);
+    row("  of others", core_frame_read, twin_run_frame_read, others, 0);
+    row("write, refused (0x01)", core_write_one, twin_run_write_one, quiet, 0);
+    row("take, refused (0x01)", core_take_none, twin_run_take_none, quiet, 0);
+}
+
 /* ten filters on each channel: what the look at their maps costs, and a start or stop, which makes them anew */
 static void ten_filters(const char *name, const char *frame, const char *start) {
     static uint8_t base[MEMORY];
@@ -447,6 +462,7 @@ int main(int argc, char **argv) {
     tp20(idle);
     deciding(idle, typical);
     saving(typical, full);
+    listeners();
     mapped();
     growth();
     printf("\nreplayed, inner calls: ns an event  core   twin    ratio\n");

@@ -30,6 +30,16 @@ static unsigned SIDE(read_32)(uint8_t *m) {
     return 4;
 }
 
+/* a frame that is let in, and read at once */
+static unsigned SIDE(frame_read)(uint8_t *m) {
+    uint32_t v;
+    for (uint32_t i = 0; i < 8; i++) {
+        keep(CALL(frame)(m, MEMORY, i & 3, 0, 0x7E8, data8, 8));
+        keep(CALL(read)(m, MEMORY, 1 + (i & 3), 1, buffer, sizeof buffer, &v) + v);
+    }
+    return 16;
+}
+
 static unsigned SIDE(write_one)(uint8_t *m) {
     uint32_t v;
     for (uint32_t i = 0; i < 16; i++) keep(CALL(write)(m, MEMORY, 1 + (i & 3), 1, message, sizeof message, &v) + v);

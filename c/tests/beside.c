@@ -20,7 +20,7 @@ SAME(ERR_INVALID_TIME_INTERVAL); SAME(ERR_EXCEEDED_LIMIT); SAME(ERR_INVALID_MSG_
 SAME(ERR_BUFFER_FULL); SAME(ERR_BUFFER_OVERFLOW); SAME(ERR_PIN_INVALID); SAME(ERR_CHANNEL_IN_USE); SAME(ERR_MSG_PROTOCOL_ID);
 SAME(ERR_INVALID_FILTER_ID); SAME(ERR_NO_FLOW_CONTROL); SAME(ERR_NOT_UNIQUE); SAME(ERR_INVALID_BAUDRATE); SAME(ERR_INVALID_DEVICE_ID);
 SAME(CLEAR_TX_BUFFER); SAME(CLEAR_RX_BUFFER); SAME(CLEAR_PERIODIC_MSGS); SAME(CLEAR_MSG_FILTERS);
-typedef char version_is_there[TRAWL_VERSION >= 60100 ? 1 : -1];
+typedef char version_is_there[TRAWL_VERSION >= 70200 ? 1 : -1];
 
 /* what a box's DLL does between the two: a record that was read becomes J2534-1's message, a message becomes a record to write; of 36 bytes, or of
  * 536 where the protocol is ISO 15765 */
@@ -126,5 +126,8 @@ int main(void) {
     if (trawl_link_open(box, sizeof box, channel, 0x200, 0x01, 0x300, 0x01, 15, 0x8A, 0x00) != ERR_INVALID_MSG) return 14;
     if (trawl_connect(box, sizeof box, 0, CAN, CAN_ID_BOTH, 500000, &channel) != STATUS_NOERROR) return 15;
     count = (uint32_t)link_begins(box, sizeof box, channel);
+    if (trawl_connect(box, sizeof box, 1, CAN, TRAWL_LISTEN_ONLY | CAN_ID_BOTH, 500000, &channel) != STATUS_NOERROR) return 16;
+    if (trawl_take(box, sizeof box, channel, record, sizeof record) != ERR_NOT_SUPPORTED) return 17;
+    if (trawl_connect(box, sizeof box, 1, ISO15765, TRAWL_LISTEN_ONLY, 500000, &channel) != ERR_INVALID_FLAGS) return 18;
     return count ? (int)count : iso_message(box, sizeof box);
 }

@@ -10,7 +10,7 @@
 #include "random.h"
 
 enum { DROPPED, PASSES, MUST_SEE, ANSWERS };
-enum { PASS = 1, BLOCK = 2, FILTERS = 10, ROW = 12, ID = 4, DATA = 8, FEW = 10 };
+enum { PASS = 1, BLOCK = 2, FILTERS = 10, ROW = 12, ID = 4, DATA = 8, FEW = 10, LISTENER = 0x10000000 };
 
 static uint8_t memories[2][TWIN_MEMORY], before[2][TWIN_MEMORY];
 static unsigned long asked, offered, counted[ANSWERS], exact[ANSWERS], together, found, sets;
@@ -245,7 +245,7 @@ static void codes(void) {
 /* ---- what plays no part, and what dropped doesn't say ---- */
 
 static void no_part(uint32_t flags) {
-    uint32_t wide_only = flags == 0x100;
+    uint32_t wide_only = (flags & 0x100) != 0;
     begin(flags), holds = 0;
     story_filter(PASS, wide_only, 1, ZEROS, ZEROS);
     SAYS(wide_only ? DROPPED : PASSES, 0, 0x123), SAYS(wide_only ? PASSES : DROPPED, 1, 0x123); /* a width that isn't taken is dropped */
@@ -445,7 +445,7 @@ static void look(void) {
 
 static void random_sets(uint32_t rounds) {
     for (uint32_t r = 0; r < rounds; r++, sets++) {
-        if (r % 50 == 0) begin(ONE_OF(0x800, 0x900)), holds = 0;
+        if (r % 50 == 0) begin(ONE_OF(0x800, 0x900) | ONE_OF(0, 0, 0, LISTENER)), holds = 0;
         no_filters();
         its_wide = below(2), its_id = its_wide ? ONE_OF(0x18DAF110, 0x1FFFFFFF, 0x7E8, 0) : ONE_OF(0x7E8, 0x001, 0x7FF, 0);
         some_pool(chance(85) ? FEW : 64);
@@ -464,7 +464,7 @@ int main(int argc, char **argv) {
     if (seed == 0) seed = 1;
     stories();
     codes();
-    no_part(0), no_part(0x100);
+    no_part(0), no_part(0x100), no_part(LISTENER), no_part(LISTENER | 0x100);
     still_needed();
     random_sets(400 * (rounds ? rounds : 1));
     must(found == counted[MUST_SEE], "two frames that differ were not found");

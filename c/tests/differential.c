@@ -8,9 +8,10 @@
 #include "../twin/twin.h"
 #include "support.h"
 
-enum { RATE = 5, PHASES = RAW_PERIODICS + 40, PENDING = PHASES + 40, EVENTS = 400 }; /* where things lie in a channel's region */
+enum { FLAGS = 1, RATE = 5, PHASES = RAW_PERIODICS + 40, PENDING = PHASES + 40 }; /* where things lie in a channel's region */
+enum { WRITTEN = PENDING + 10 + 10 * TRAWL_RECORD, FLYING = WRITTEN + 1 + 16 * TRAWL_RECORD, QUEUE = FLYING + 1 + TRAWL_RECORD, EVENTS = 400 };
 
-static unsigned long counted[KINDS + 1][0x20], olds;
+static unsigned long counted[KINDS + 1][0x20], olds, listeners[2]; /* listeners that were not valid, and that were */
 
 /* the memory needs more room than a lent buffer has */
 static uint8_t core_room[GUARD + TRAWL_MEMORY + GUARD], twin_room[GUARD + TRAWL_MEMORY + GUARD];
@@ -236,6 +237,7 @@ static void sequences(uint32_t rounds) {
         power_on();
         for (uint32_t k = 0; k < CHANNELS; k++) {
             connect_event(&e, k % 4, k < 4 ? 5 : 6, (uint32_t[]){0, 0x100, 0x800, 0x900}[(k + r) % 4], 500000);
+            if (k < 4 && chance(20)) e.c |= TRAWL_LISTEN_ONLY;
             if (chance(80)) both(&e, r);
         }
         if (r % 3 == 0) connections(r);
@@ -337,6 +339,33 @@ static void each_link_limit(void) {
         }
 }
 
+/* a channel with these flags: both say whether the memory is valid */
+static void with_flags(uint32_t channel, uint32_t flags) {
+    uint8_t *p = core + region_of(channel);
+    trawl_store32(p + FLAGS, flags);
+    same_verdict(TRAWL_MEMORY, "verdict on other flags", channel);
+    if (p[0] && flags & TRAWL_LISTEN_ONLY) listeners[twin_valid(core, TRAWL_MEMORY)]++;
+}
+
+/* every channel with the listeners' flag put in or taken out, with each choice of what a listener never has: periodics, written records, a flight, a
+ * connection */
+static void each_listener(void) {
+    static const size_t from[4] = {RAW_PERIODICS, WRITTEN, FLYING, LINK_AT}, to[4] = {WRITTEN, FLYING, QUEUE, RAW_REGION};
+    static uint8_t was[ISO_REGION];
+    for (uint32_t channel = 1; channel <= CHANNELS; channel++) {
+        uint8_t *p = core + region_of(channel);
+        memcpy(was, p, region_size(channel));
+        for (uint32_t without = 0; without < (is_iso(channel) ? 1 : 16); without++) {
+            uint32_t flags = trawl_load32(was + FLAGS);
+            for (uint32_t i = 0; i < 4; i++)
+                if (without >> i & 1) memset(p + from[i], 0, to[i] - from[i]);
+            with_flags(channel, flags), with_flags(channel, flags ^ TRAWL_LISTEN_ONLY);
+            with_flags(channel, (flags | TRAWL_LISTEN_ONLY) ^ 1u << below(32));
+            memcpy(p, was, region_size(channel));
+        }
+    }
+}
+
 /* does a number of a conversation or of a record lie about here in the region of channels 5 to 8? Their payloads don't count */
 static int in_numbers(size_t at) { return at < 42 || (at >= 550 && at < 582) || (at >= 1090 && (at - 1090) % TRAWL_ISO_RECORD < 32); }
 
@@ -404,8 +433,10 @@ static void random_bytes(void) {
 static void damaged(uint32_t rounds) {
     for (uint32_t r = 0; r < rounds; r++) {
         busy();
+        each_listener();
         converse();
         connections(r);
+        each_listener();
         each_byte();
         each_limit();
         each_link_limit();
@@ -428,6 +459,8 @@ static void short_buffers(void) {
     static event e;
     busy();
     connections(1);
+    act(DISCONNECT, 3, 0, 0);
+    connect_event(&e, 2, 5, TRAWL_LISTEN_ONLY | 0x800, 500000), both(&e, 3);
     for (int kind = START_FILTER; kind <= KINDS; kind++)
         for (uint32_t n = 0; n <= 2 * TRAWL_ISO_RECORD + 1; n += n < 80 || n % TRAWL_ISO_RECORD > TRAWL_ISO_RECORD - 30 ? 1 : 23) {
             if (kind > TAKE && kind != START_FLOW && kind != LINK_SEND && kind != LINK_RECEIVE && kind < SAVE) continue;
@@ -519,6 +552,14 @@ static void isolation(uint32_t rounds) {
     }
 }
 
+/* each call that a listener doesn't do was asked of one, and both verdicts on listeners were met */
+static void met_listeners(void) {
+    static const int calls[] = {WRITE, TAKE, SENT, START_PERIODIC, LINK_OPEN, LINK_SEND, LINK_RECEIVE, LINK_END};
+    for (size_t i = 0; i < sizeof calls / sizeof *calls; i++)
+        if (counted[calls[i]][0x01] == 0) fail("no listener was asked", NULL, (uint64_t)calls[i]);
+    if (listeners[0] == 0 || listeners[1] == 0) fail("no verdict on listeners", NULL, 0);
+}
+
 int main(int argc, char **argv) {
     uint32_t rounds = argc > 2 ? (uint32_t)strtoul(argv[2], NULL, 10) : 1;
     unsigned long total = 0, codes = 0;
@@ -531,10 +572,11 @@ int main(int argc, char **argv) {
     short_buffers();
     lists();
     isolation(20 * rounds);
+    met_listeners();
     for (int k = 1; k <= KINDS; k++)
         for (int c = 0; c < 0x20; c++) total += counted[k][c], codes += counted[k][c] != 0;
-    printf("core and twin agree: %lu calls, %lu pairs of call and code, last codes, %lu channels made to hold 125,000, "
+    printf("core and twin agree: %lu calls, %lu pairs of call and code, last codes, %lu channels made to hold 125,000, %lu made listeners, "
            "verdicts on damaged memories, short buffers, lists, isolation\n",
-           total, codes, olds);
+           total, codes, olds, listeners[0] + listeners[1]);
     return 0;
 }

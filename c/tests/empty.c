@@ -69,6 +69,21 @@ static void connections(void) {
     must(trawl_frame(box, sizeof box, 0, 0, 0x300, (const uint8_t *)"\xA8", 1) == 0, "disconnect");
 }
 
+/* a listener doesn't look at what it is lent */
+static void listens(void) {
+    uint32_t v;
+    must(trawl_connect(box, sizeof box, 3, 5, TRAWL_LISTEN_ONLY, 500000, &v) == 0 && v == 4, "connect");
+    NOTED_ON(4, 0x01, 0, trawl_start_periodic(box, sizeof box, 4, NULL, 0, 5, &v), v);
+    NOTED_ON(4, 0x01, 0, trawl_write(box, sizeof box, 4, 1, NULL, 0, &v), v);
+    NOTED_ON(4, 0x01, 0, trawl_write(box, sizeof box, 4, 0, NULL, 0, &v), v);
+    NOTED_ON(4, 0x01, 77, trawl_take(box, sizeof box, 4, NULL, 0), v);
+    NOTED_ON(4, 0x01, 77, trawl_link_send(box, sizeof box, 4, NULL, 0), v);
+    NOTED_ON(4, 0x01, 0, trawl_link_receive(box, sizeof box, 4, NULL, 0, &v), v);
+    NOTED_ON(4, 0x04, 0, trawl_read(box, sizeof box, 4, 1, NULL, 0, &v), v);
+    NOTED_ON(4, 0x0A, 77, trawl_load(box, sizeof box, 4, NULL, 0), v);
+    must(trawl_disconnect(box, sizeof box, 4) == 0, "disconnect");
+}
+
 int main(void) {
     static uint8_t record[TRAWL_RECORD], mask[TRAWL_RECORD], telegram[TRAWL_TELEGRAM], room[TRAWL_EVENT_ROOM];
     uint32_t v;
@@ -127,6 +142,7 @@ int main(void) {
     STAYS(0x00, 77, trawl_frame(box, sizeof box, 0, 0, 0x7E8, NULL, 0), v); /* no filter lets nothing in */
     conversations();
     connections();
+    listens();
 
     /* a frame without data: a filter of twelve bytes doesn't match it, one of four does */
     trawl_record_make(mask, 0, 0x7FF, (const uint8_t *)"\xFF\xFF\xFF\xFF\xFF\xFF\xFF\xFF", 8);

@@ -528,10 +528,10 @@ static void host_acts(void) {
 
 /* ---- a story ---- */
 
-/* the raw channel of the line hears everything */
+/* the raw channel of the line hears everything, now and then as a listener */
 static void listen(void) {
     uint8_t every[RAW_RECORD];
-    MUST(on->connect(BOX, line, 5, 0x800, 500000, &v) == 0);
+    MUST(on->connect(BOX, line, 5, chance(40) ? 0x10000800 : 0x800, 500000, &v) == 0);
     for (uint32_t wide = 0; wide < 2; wide++) {
         record_at(every, RAW_RECORD, 5, 0, wide << 8, 0, 0, 0, NULL, 0);
         put_word(every + 16, 1);

@@ -8,6 +8,8 @@
 #include "random.h"
 #include "sides_play.h"
 
+enum { LISTENER = 0x10000000 }; /* a flag of raw CAN alone */
+
 static uint32_t busy; /* the line where most of it happens */
 
 /* ---- where things lie in the region of a channel ---- */
@@ -98,6 +100,7 @@ static void some_event(event *e, uint32_t damage) {
     switch (e->kind) {
     case CONNECT:
         e->a = off(below(4), damage), e->b = off(chance(80) ? 6 : 5, damage), e->c = off(ONE_OF(0, 0, 0x100, 0x800, 0x900), damage);
+        if (chance(e->b == 5 ? 20 : damage)) e->c |= LISTENER; /* with another protocol it is damage */
         e->d = off(ONE_OF(125000, 250000, 250000, 500000, 500000), damage);
         break;
     case ADVANCE:
@@ -177,7 +180,7 @@ static void make(event *e) {
     case 1:
         at = ONE_OF(1, 5, TALK + N, TALK + TIME, TALK + LEFT, TALK + GAP, TALK + COUNT, TALK + PATTERN, TALK + FLOW);
         if (chance(50)) at = ONE_OF(OUT + 1, IN + 1, IN + 1 + RECORD, FLIGHT) + 4 * below(6); /* a number of a record */
-        put_word(r + at, ONE_OF(0, 1, 2, 3, 4, 5, 6, 8, 9, 13, 255, 256, 257, 512, 513, any()));
+        put_word(r + at, ONE_OF(0, 1, 2, 3, 4, 5, 6, 8, 9, 13, 255, 256, 257, 512, 513, LISTENER, any()));
         break;
     case 2:
         at = ONE_OF(0, 9, TALK, TALK + 1, TALK + KIND, TALK + ASKED, OUT, FLYING, OWNER, IN, LOST, LAST);

@@ -760,6 +760,8 @@ static void beside(void) {
     }
     GIVES(0x03, 0, connect(0, 0x106, 0, 1));
     GIVES(0x06, 0, connect(9, 6, 1, 1));
+    GIVES(0x06, 0, connect(9, 6, 0x10000000, 1)); /* raw CAN's alone */
+    GIVES(0x06, 0, connect(0, 6, 0x10000800, 500000));
     GIVES(0x19, 0, connect(9, 6, 0, 125000)); /* retired here too */
     GIVES(0x13, 0, connect(4, 6, 0, 250000));
     GIVES(0x14, 0, connect(3, 6, 0, 250000));

@@ -13,7 +13,7 @@ static unsigned long reached[5]; /* how often an event met each state there */
 
 /* ---- where things lie in a raw region, and in its connection ---- */
 
-enum { STORE = 1149, FLAGS = 1, FLYING = RAW_PERIODICS + 1027, FLIGHT = FLYING + 1 };
+enum { STORE = 1149, LISTENER = 0x10000000, FLAGS = 1, FLYING = RAW_PERIODICS + 1027, FLIGHT = FLYING + 1 };
 enum { STATE, OWN, RX = 5, DESTINATION = 9, APPLICATION, SIZE, T1, T3, TX = 14, TRIES = 18, TRIAL, TRIAL_LEFT, LEAVING = 24, LEAVING_LEFT, BLOCK = 29,
        PACE, WIRE, WIRE_LEFT, ANSWERS = 36, TESTS, UNANSWERED, TEST_LEFT, HOLD = 43, SN = 47, OUT, OUT_LEFT, TAKEN = 53, REPEATS, AGAIN, REST_N,
        REST = 60, EXPECTED = 572, ACKNOWLEDGES, COMPLETE, IN_N, IN = 579, PART = 1091 };
@@ -124,6 +124,9 @@ static void some_set_up(event *e, uint32_t damage) {
     if (n && chance(damage)) bytes(&e->first)[below(n)] = (uint8_t)any();
 }
 
+/* so often, in percent, those of a listener */
+static uint32_t some_flags(uint32_t often) { return ONE_OF(0, 0, 0x800, 0x900, 0x100) | (chance(often) ? LISTENER : 0); }
+
 static void some_event(event *e, uint32_t damage) {
     static const uint32_t often[] = {ADVANCE, ADVANCE, ADVANCE, FRAME, FRAME, FRAME, FRAME, FRAME, FRAME, FRAME, FRAME, TAKE, TAKE, TAKE, TAKE, SENT,
                                      SENT, SENT, SENT, LINK_OPEN, LINK_OPEN, LINK_OPEN, LINK_SEND, LINK_SEND, LINK_RECEIVE, LINK_RECEIVE, LINK_END,
@@ -136,7 +139,7 @@ static void some_event(event *e, uint32_t damage) {
     blank(e, (int)kind, off(chance(75) ? 1 + busy : 1 + below(4), damage / 3));
     if ((e->kind == TAKE || e->kind == SENT) && e->a >= 1 && e->a <= 4 && chance(70)) e->kind = mine[region(e->a) + FLYING] ? SENT : TAKE;
     switch (e->kind) {
-    case CONNECT: e->a = below(4), e->b = chance(80) ? 5 : 6, e->c = ONE_OF(0, 0, 0x800, 0x900, 0x100), e->d = 500000; break;
+    case CONNECT: e->a = below(4), e->b = chance(80) ? 5 : 6, e->c = some_flags(15), e->d = 500000; break;
     case DISCONNECT: e->kind = chance(5) ? CLOSE : DISCONNECT; break;
     case ADVANCE: e->a = off(some_time(), damage / 2); break;
     case FRAME: some_frame(e, damage); break;
@@ -238,7 +241,7 @@ static void make(event *e) {
     case 1: p[below(chance(50) ? REST : EXPECTED + 7)] ^= (uint8_t)(1u << below(8)); break;
     case 2: put_word(p + ONE_OF(OWN, RX, TX, TRIAL_LEFT, LEAVING_LEFT, WIRE_LEFT, TEST_LEFT, HOLD, OUT_LEFT, REST_N, IN_N),
                      ONE_OF(0, 1, 2, 255, 512, 513, 0x7FF, 0x800, 100000, 100001, 1000000, 1000001, 6300000, any())); break;
-    case 3: put_word(r + FLAGS, ONE_OF(0, 0x100, 0x800, 0x900)); break;
+    case 3: put_word(r + FLAGS, some_flags(40)); break;
     default: some_part(p); break;
     }
     if (chance(40) && !r[FLYING]) r[FLYING] = 1, record_at(r + FLIGHT, RAW_RECORD, 5, 0, 0, 0, 4, 0x740, NULL, 0);
@@ -251,7 +254,7 @@ static void sequence(uint32_t events, uint32_t damage, uint32_t making) {
     all_begin();
     for (uint32_t line = 0; line < 4; line++) {
         blank(&e, CONNECT, line);
-        e.b = 5, e.c = ONE_OF(0, 0, 0x800), e.d = 500000;
+        e.b = 5, e.c = ONE_OF(0, 0, 0x800) | (chance(line == busy ? 5 : 20) ? LISTENER : 0), e.d = 500000;
         all_play(&e);
     }
     for (uint32_t i = 0; i < events; i++, turn++) {

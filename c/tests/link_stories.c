@@ -1092,6 +1092,34 @@ static void four(void) {
     for (uint32_t channel = 5; channel <= 8; channel++) CODE(0x10, on->take(BOX, channel, lent, sizeof lent));
 }
 
+/* a listener has none: 0x01 whatever is asked, and frames of a module and time leave it without one. A connection of another line goes on */
+static void listener(void) {
+    static const uint32_t flags[4] = {0x10000000, 0x10000100, 0x10000800, 0x10000900};
+    stands();
+    for (uint32_t i = 0; i < 4; i++) {
+        GIVES(0x00, 2, connect(1, 5, flags[i]));
+        memcpy(part, box + 4 + on->raw_region + on->link, sizeof part);
+        for (int turn = 0; turn < 2; turn++) { /* before and after the frames that would open one */
+            CODE(0x01, begin_link(2, 15, 0x8A, 0));
+            CODE(0x01, begin_link(2, 0, 256, 256));
+            CODE(0x01, on->link_send(BOX, 2, up, 1));
+            CODE(0x01, on->link_send(BOX, 2, up, 0));
+            GIVES(0x01, 0, on->link_receive(BOX, 2, got, 512, &v));
+            GIVES(0x01, 0, on->link_receive(BOX, 2, got, 0, &v));
+            CODE(0x01, end(2));
+            CODE(0x01, take(2)), CODE(0x01, sent(2));
+            GIVES(0x00, 0x01, last(2));
+            CODE(0x00, on->frame(BOX, 1, 0, 0x201, LIST(POSITIVE))), CODE(0x00, on->frame(BOX, 1, 0, 0x300, LIST(OURS(0xA1))));
+            ADVANCE(1000);
+        }
+        MUST(memcmp(part, box + 4 + on->raw_region + on->link, sizeof part) == 0);
+        CODE(0x00, on->disconnect(BOX, 2));
+    }
+    LINK;
+    CODE(0x00, send(3));
+    GOES(0x10, 1, 2, 3);
+}
+
 /* times run over the end of the clock */
 static void wrap(void) {
     begin();
@@ -1239,7 +1267,7 @@ int main(void) {
     void (*const stories[])(void) = {
         example_1, example_2,    example_3, example_4,  example_5,  example_6,     example_7,      example_8,     example_t2, codes, fetching,
         replies,   replies_that_are_none,   connecting, spacing,    not_ready,     acknowledges,   longest,       tests,      priorities,
-        receptions, both_ways,   breaks,    ends,       choice,     four,          wrap,           valid_opening, valid_standing,
+        receptions, both_ways,   breaks,    ends,       choice,     four,          listener,       wrap,          valid_opening, valid_standing,
         valid_message, valid_leaving};
     for (size_t i = 0; i < sizeof up; i++) up[i] = (uint8_t)(i + 1);
     for (const side *const *s = sides; *s; s++)

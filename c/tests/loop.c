@@ -87,17 +87,24 @@ static uint32_t read_one(uint32_t channel) {
     return count;
 }
 
-/* a conversation on channel 6, and a message of ten bytes for it */
+/* a message of ten bytes for the conversation of channel 6 */
+static void message(void) {
+    uint8_t r[TRAWL_ISO_RECORD];
+    uint32_t v;
+    trawl_iso_record_make(r, 0, 0x241, (const uint8_t *)"ten bytes.", 10);
+    must(trawl_write(box, sizeof box, 6, 1, r, sizeof r, &v) == 0 && v == 1, "message");
+}
+
+/* a conversation on channel 6, and a message for it */
 static void converse(void) {
-    uint8_t mask[TRAWL_ISO_RECORD], pattern[TRAWL_ISO_RECORD], flow[TRAWL_ISO_RECORD], message[TRAWL_ISO_RECORD];
+    uint8_t mask[TRAWL_ISO_RECORD], pattern[TRAWL_ISO_RECORD], flow[TRAWL_ISO_RECORD];
     uint32_t v;
     trawl_iso_record_make(mask, 0, 0xFFFFFFFF, NULL, 0);
     trawl_iso_record_make(pattern, 0, 0x641, NULL, 0);
     trawl_iso_record_make(flow, 0, 0x241, NULL, 0);
-    trawl_iso_record_make(message, 0, 0x241, (const uint8_t *)"ten bytes.", 10);
     must(trawl_connect(box, sizeof box, 1, TRAWL_ISO15765, 0, 500000, &v) == 0 && v == 6, "connect");
     must(trawl_start_flow_filter(box, sizeof box, 6, 3, mask, sizeof mask, pattern, sizeof pattern, flow, sizeof flow, &v) == 0, "filter");
-    must(trawl_write(box, sizeof box, 6, 1, message, sizeof message, &v) == 0 && v == 1, "message");
+    message();
 }
 
 /* one turn of wire and loop hands this frame over */
@@ -105,6 +112,25 @@ static void hands(uint32_t id) {
     uint32_t was = handed[1];
     wire(), step();
     must(handed[1] == was + 1 && last[1] == id, "the channels take turns");
+}
+
+/* a listener in the place of a raw channel: the loop asks it too, and hands over what the other channel of the line has; frames that come are read */
+static void listens(uint32_t channel) {
+    uint8_t every[TRAWL_RECORD];
+    uint32_t number;
+    trawl_record_make(every, 0, 0, NULL, 0);
+    wire(), step(), wire();
+    trawl_disconnect(box, sizeof box, channel), step();
+    trawl_connect(box, sizeof box, 1, TRAWL_CAN, TRAWL_LISTEN_ONLY, 500000, &channel);
+    trawl_start_filter(box, sizeof box, channel, TRAWL_PASS_FILTER, every, sizeof every, every, sizeof every, &number);
+    message(), hands(0x241);
+    partner_says(0x641, "\x30\0\0", 3), arriving[1] = 1, hands(0x241);
+    wire(), step();
+    must(trawl_read(box, sizeof box, 6, 1, record, sizeof record, &number) == 0 && trawl_record_tx_done(record) == 1, "the message is sent");
+    must(read_one(channel) == 1 && trawl_record_identifier(record) == 0x641, "the partner's frame");
+    must(read_one(channel) == 1 && trawl_record_identifier(record) == 0x7E8, "another frame");
+    step();
+    must(trawl_last_error(box, sizeof box, channel, &number) == 0 && number == TRAWL_ERR_NOT_SUPPORTED, "a listener's take");
 }
 
 int main(void) {
@@ -169,6 +195,7 @@ int main(void) {
     hands(0x640), hands(0x640);
     partner_says(0x300, "\xB2", 1), wire(), step();
     must(trawl_link_send(box, sizeof box, channel, (const uint8_t *)"more", 4) == 0, "the message is acknowledged");
+    listens(channel);
     printf("the header's loop: %lu looks\n", held);
     return 0;
 }

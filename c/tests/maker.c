@@ -63,7 +63,8 @@ size_t some_recording(uint8_t *recording, size_t most, int damage) {
     uint8_t one[2 * ROOM], *end;
     if (chance(50)) n = mark(recording, 2), made.marked++;
     for (uint32_t k = 0; k < CHANNELS && chance(90); k++) {
-        end = PUT(recording + n, CONNECT, k % 4, k < 4 ? 5 : 6, k * 0x100 & 0x900, 500000);
+        uint32_t listens = k < 4 && chance(20) ? TRAWL_LISTEN_ONLY : 0;
+        end = PUT(recording + n, CONNECT, k % 4, k < 4 ? 5 : 6, (k * 0x100 & 0x900) | listens, 500000);
         n = (size_t)(end - recording), made.events++;
     }
     for (;;) {

@@ -9,7 +9,7 @@
 #include "random.h"
 
 enum { PASS = 1, BLOCK = 2, FILTERS = 10, ROW = 12, ID = 4, DATA = 8, IDENTIFIERS = 0x800, MAP = 256, MAPS = 2 * MAP };
-enum { NARROW = 0, WIDE = 0x100, BOTH = 0x800 };
+enum { NARROW = 0, WIDE = 0x100, BOTH = 0x800, LISTENER = 0x10000000 };
 
 static uint8_t memories[2][TWIN_MEMORY], before[TWIN_MEMORY];
 static unsigned long sets, changes, frames, turned, refusals;
@@ -306,7 +306,7 @@ static void each_bit(uint32_t line) {
     EACH(valid(MEMORY));
 }
 
-/* on a channel with filters of both types; with those of the list alone; with none; that takes wide frames only; that is closed */
+/* on a channel with filters of both types; with those of the list alone; with none; that takes wide frames only; that is closed; on a listener */
 static void bits(void) {
     begin(NARROW);
     story(PASS, 0, 4, "\0\0\7\xF0", "\0\0\7\xE0"), story(BLOCK, 0, 4, "\xFF\xFF\xFF\xFF", "\0\0\7\xE8"), story(PASS, 0, 2, "\0\0", "\0\0");
@@ -315,6 +315,7 @@ static void bits(void) {
     no_filters(), each_bit(0);
     begin(WIDE), story(PASS, 1, 4, "\0\0\0\0", "\0\0\0\0"), each_bit(0);
     each_bit(3);
+    begin(LISTENER), story(PASS, 0, 4, "\0\0\7\xF0", "\0\0\7\xE0"), each_bit(0);
 }
 
 /* ---- random filters ---- */
@@ -349,7 +350,7 @@ static void some_change(uint32_t flags) {
 static void random_sets(uint32_t rounds) {
     uint32_t flags = NARROW;
     for (uint32_t r = 0; r < rounds; r++, sets++) {
-        if (r % 2 == 0) begin(flags = ONE_OF(NARROW, NARROW, BOTH, BOTH, BOTH, WIDE));
+        if (r % 2 == 0) flags = ONE_OF(NARROW, NARROW, BOTH, BOTH, BOTH, WIDE), begin(flags | ONE_OF(0, 0, 0, LISTENER));
         for (uint32_t k = 1 + below(12); k > 0; k--) some_change(flags);
         for (uint32_t id = 0; id < IDENTIFIERS; id++) frame_is_right(0, id);
         for (uint32_t k = 0; k < 64; k++) frame_is_right(1, any() & (chance(50) ? 0x1FFFFFFF : 0x7FF));

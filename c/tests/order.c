@@ -546,6 +546,115 @@ static void settings(void) {
     GIVES(0x02, trawl_disconnect(BOX, NARROW));
 }
 
+/* ---- listeners, on a box just closed ---- */
+
+/* the flag's place among connect's codes; with protocol 6 it is a flag as any other */
+static void listening(void) {
+    GIVES(0x1A, trawl_connect(BROKEN, 9, 7, TRAWL_LISTEN_ONLY, 1, &number));
+    GIVES(0x03, trawl_connect(BOX, 9, 7, TRAWL_LISTEN_ONLY, 1, &number));
+    GIVES(0x06, trawl_connect(BOX, 9, 6, TRAWL_LISTEN_ONLY, 1, &number));
+    GIVES(0x06, trawl_connect(BOX, 0, 6, TRAWL_LISTEN_ONLY | 0x900, 500000, &number));
+    GIVES(0x06, trawl_connect(BOX, 9, 5, TRAWL_LISTEN_ONLY | 1, 1, &number));
+    GIVES(0x06, trawl_connect(BOX, 9, 5, TRAWL_LISTEN_ONLY << 1, 1, &number));
+    GIVES(0x06, trawl_connect(BOX, 9, 5, TRAWL_LISTEN_ONLY >> 1, 1, &number));
+    GIVES(0x19, trawl_connect(BOX, 9, 5, TRAWL_LISTEN_ONLY, 125000, &number));
+    GIVES(0x13, trawl_connect(BOX, 4, 5, TRAWL_LISTEN_ONLY | 0x900, 500000, &number));
+    GIVES(0x00, trawl_connect(BOX, 0, 5, TRAWL_LISTEN_ONLY, 500000, &number));
+    must(number == NARROW, "the number of a listener");
+    GIVES(0x00, trawl_connect(BOX, 1, 5, TRAWL_LISTEN_ONLY | 0x100, 500000, &number));
+    GIVES(0x00, trawl_connect(BOX, 2, 5, 0x800, 500000, &number));
+    NOTES(NARROW, 0x14, trawl_connect(BOX, 0, 5, TRAWL_LISTEN_ONLY, 500000, &number));
+    NOTES(NARROW, 0x14, trawl_connect(BOX, 0, 5, 0, 500000, &number)); /* it stays a listener */
+    GIVES(0x06, trawl_connect(BOX, 0, 6, TRAWL_LISTEN_ONLY, 500000, &number));
+    must(last(NARROW) == 0x14, "another channel of the line was refused");
+}
+
+/* after 0x02, and before 0x04 and all else, where nothing is wrong too; another channel has its 0x04 where it was */
+static void muted(void) {
+    uint8_t good[36], out[36] = {0xC3};
+    trawl_record_make(good, 0, 0x7FF, NULL, 0);
+    GIVES(0x1A, trawl_write(BROKEN, NARROW, 2, R(good), &number));
+    GIVES(0x02, trawl_write(BOX, CLOSED, 2, R(good), &number));
+    NOTES(BOTH, 0x04, trawl_write(BOX, BOTH, 2, R(good), &number));
+    NOTES(NARROW, 0x01, trawl_write(BOX, NARROW, 2, R(good), &number));
+    NOTES(NARROW, 0x01, trawl_write(BOX, NARROW, 1, R(good), &number));
+    NOTES(NARROW, 0x01, trawl_write(BOX, NARROW, 0, NULL, 0, &number));
+    NOTES(WIDE, 0x01, trawl_write(BOX, WIDE, 1, R(good), &number)); /* before its width */
+    GIVES(0x1A, trawl_take(BROKEN, NARROW, out, 0));
+    GIVES(0x02, trawl_take(BOX, CLOSED, out, 0));
+    NOTES(BOTH, 0x04, trawl_take(BOX, BOTH, out, 0));
+    NOTES(NARROW, 0x01, trawl_take(BOX, NARROW, out, 0));
+    NOTES(NARROW, 0x01, trawl_take(BOX, NARROW, R(out)));
+    GIVES(0x1A, trawl_sent(BROKEN, NARROW));
+    GIVES(0x02, trawl_sent(BOX, CLOSED));
+    NOTES(BOTH, 0x07, trawl_sent(BOX, BOTH));
+    NOTES(NARROW, 0x01, trawl_sent(BOX, NARROW));
+    GIVES(0x1A, trawl_start_periodic(BROKEN, NARROW, good, 35, 4, &number));
+    GIVES(0x02, trawl_start_periodic(BOX, CLOSED, good, 35, 4, &number));
+    NOTES(BOTH, 0x04, trawl_start_periodic(BOX, BOTH, good, 35, 4, &number));
+    NOTES(NARROW, 0x01, trawl_start_periodic(BOX, NARROW, good, 35, 4, &number));
+    NOTES(NARROW, 0x01, trawl_start_periodic(BOX, NARROW, R(good), 4, &number));
+    NOTES(NARROW, 0x01, trawl_start_periodic(BOX, NARROW, R(good), 5, &number));
+    must(out[0] == 0xC3, "a lent buffer stays");
+}
+
+/* the same of the calls of a TP2.0 connection */
+static void muted_links(void) {
+    static uint8_t message[513], out[512] = {0xC3};
+    GIVES(0x1A, trawl_link_open(BROKEN, NARROW, 0, 0xF0, 0x800, 0, 0, 256, 256));
+    GIVES(0x02, trawl_link_open(BOX, CLOSED, 0, 0xF0, 0x800, 0, 0, 256, 256));
+    NOTES(BOTH, 0x0A, trawl_link_open(BOX, BOTH, 0, 0xF0, 0x800, 0, 0, 256, 256));
+    NOTES(NARROW, 0x01, trawl_link_open(BOX, NARROW, 0, 0xF0, 0x800, 0, 0, 256, 256));
+    NOTES(NARROW, 0x01, trawl_link_open(BOX, NARROW, 0x200, 0x01, 0x300, 0x01, 15, 0x8A, 0x00));
+    NOTES(WIDE, 0x01, trawl_link_open(BOX, WIDE, 0x200, 0x01, 0x300, 0x01, 15, 0x8A, 0x00)); /* before its width */
+    GIVES(0x1A, trawl_link_send(BROKEN, NARROW, message, 513));
+    GIVES(0x02, trawl_link_send(BOX, CLOSED, message, 513));
+    NOTES(BOTH, 0x07, trawl_link_send(BOX, BOTH, message, 513));
+    NOTES(NARROW, 0x01, trawl_link_send(BOX, NARROW, message, 513));
+    NOTES(NARROW, 0x01, trawl_link_send(BOX, NARROW, message, 1));
+    NOTES(WIDE, 0x01, trawl_link_send(BOX, WIDE, message, 1));
+    GIVES(0x1A, trawl_link_receive(BROKEN, NARROW, out, 511, &number));
+    GIVES(0x02, trawl_link_receive(BOX, CLOSED, out, 511, &number));
+    NOTES(BOTH, 0x04, trawl_link_receive(BOX, BOTH, out, 511, &number));
+    NOTES(NARROW, 0x01, trawl_link_receive(BOX, NARROW, out, 511, &number));
+    NOTES(NARROW, 0x01, trawl_link_receive(BOX, NARROW, out, 512, &number));
+    NOTES(WIDE, 0x01, trawl_link_receive(BOX, WIDE, out, 511, &number));
+    GIVES(0x1A, trawl_link_end(BROKEN, NARROW));
+    GIVES(0x02, trawl_link_end(BOX, CLOSED));
+    NOTES(BOTH, 0x07, trawl_link_end(BOX, BOTH));
+    NOTES(NARROW, 0x01, trawl_link_end(BOX, NARROW));
+    NOTES(WIDE, 0x01, trawl_link_end(BOX, WIDE));
+    must(out[0] == 0xC3, "a lent buffer stays");
+}
+
+/* the codes of the other calls are as on any raw channel */
+static void listens(void) {
+    static uint8_t out[TRAWL_STORE];
+    uint8_t every[36], wide[36];
+    trawl_record_make(every, 0, 0, NULL, 0), trawl_record_make(wide, 1, 0, NULL, 0);
+    NOTES(NARROW, 0x04, trawl_start_filter(BOX, NARROW, 3, every, 35, R(every), &number));
+    NOTES(NARROW, 0x16, trawl_start_filter(BOX, NARROW, 3, R(every), R(every), &number));
+    NOTES(NARROW, 0x0A, trawl_start_filter(BOX, NARROW, 1, R(wide), R(wide), &number));
+    NOTES(NARROW, 0x00, trawl_start_filter(BOX, NARROW, 1, R(every), R(every), &number));
+    NOTES(NARROW, 0x16, trawl_stop_filter(BOX, NARROW, 2));
+    NOTES(NARROW, 0x0D, trawl_stop_periodic(BOX, NARROW, 1));
+    NOTES(NARROW, 0x04, trawl_read(BOX, NARROW, 2, out, 71, &number));
+    NOTES(NARROW, 0x10, trawl_read(BOX, NARROW, 2, R(out), &number));
+    NOTES(NARROW, 0x01, trawl_get(BOX, NARROW, 2, &number));
+    NOTES(NARROW, 0x05, trawl_set(BOX, NARROW, 1, 125000));
+    NOTES(NARROW, 0x0F, trawl_clear(BOX, NARROW, 5));
+    for (uint32_t kind = 1; kind < 5; kind++) NOTES(NARROW, 0x00, trawl_clear(BOX, NARROW, kind));
+    NOTES(NARROW, 0x0A, trawl_decide(BOX, NARROW, 0, 0x800, &number));
+    NOTES(NARROW, 0x04, trawl_save(BOX, NARROW, out, 11, &number));
+    NOTES(NARROW, 0x00, trawl_save(BOX, NARROW, out, 12, &number));
+    NOTES(WIDE, 0x0A, trawl_load(BOX, WIDE, out, 12)); /* other flags */
+    NOTES(NARROW, 0x00, trawl_load(BOX, NARROW, out, 12));
+    GIVES(0x00, trawl_disconnect(BOX, NARROW));
+    GIVES(0x02, trawl_take(BOX, NARROW, R(out)));
+    GIVES(0x00, trawl_connect(BOX, 0, 5, 0, 500000, &number));
+    NOTES(NARROW, 0x10, trawl_take(BOX, NARROW, R(out)));
+}
+
 int main(void) {
     open_all();
     lines();
@@ -560,6 +669,10 @@ int main(void) {
     deciding();
     saving();
     settings();
+    listening();
+    muted();
+    muted_links();
+    listens();
     printf("codes in the header's order: %lu looks\n", held);
     return 0;
 }

@@ -128,6 +128,15 @@ static void editions(void) {
     }
 }
 
+/* the readings' first two examples of listeners */
+static void listeners(void) {
+    static const char first[] = "\x01\x00\x05\x80\x80\x80\x80\x01\xA0\xC2\x1E\x0A\x01\x00\x0C\x01\x0D\x01\x0B\x01\x01\x0E\x01\x01\x09\x01\x01"
+                                "\x10\x01\x03\x01\x01\x00\x05\x00\xA0\xC2\x1E";
+    static const char second[] = "\x01\x00\x06\x80\x80\x80\x80\x01\xA0\xC2\x1E\x01\x00\x05\x80\x92\x80\x80\x01\xA0\xC2\x1E";
+    memcpy(recording, first, sizeof first - 1), writes(sizeof first - 1, "\x00\x01\x01\x00\x01\x01\x10\x00\x00\x0D\x00\x14", 12);
+    memcpy(recording, second, sizeof second - 1), writes(sizeof second - 1, "\x06\x00\x01", 3);
+}
+
 int main(int argc, char **argv) {
     uint32_t rounds = argc > 2 ? (uint32_t)strtoul(argv[2], NULL, 10) : 1;
     size_t n;
@@ -142,6 +151,7 @@ int main(int argc, char **argv) {
         both(n);
     }
     editions();
+    listeners();
     both(0);
     printf("replays agree: %lu recordings, %lu made with the mark of edition 2, of about %lu events, %lu bytes of output, in %lu pieces\n", replays,
            made.marked, made.events, output, pieces);

@@ -8,7 +8,7 @@
 #include "maker.h"
 #include "support.h"
 
-enum { LONGEST = 32768 };
+enum { LONGEST = 32768, LISTENER = 0x10000000 };
 
 static uint8_t recording[LONGEST + 8];
 static const char *folder;
@@ -67,7 +67,7 @@ static uint8_t *busy_event(uint8_t *p) {
     case 0: return PUT(p, CLEAR, channel, 1 + below(4));
     case 1: return PUT(p, READ, channel, below(8) * below(8));
     case 2: return chance(20) ? PUT(p, CLOSE) : PUT(p, DISCONNECT, channel);
-    case 3: case 4: case 5: return PUT(p, CONNECT, line, 5, ONE_OF(0, 0x100, 0x800, 0x800), 500000);
+    case 3: case 4: case 5: return PUT(p, CONNECT, line, 5, ONE_OF(0, 0x100, 0x800, 0x800) | (chance(20) ? LISTENER : 0), 500000);
     case 6: case 7: {
         uint8_t bits = (uint8_t)(1u << below(4)), type = chance(75) ? 1 : 2;
         p = put_record(PUT(p, START_FILTER, channel, type), wide << 8, 4, chance(40) ? 0 : bits);

@@ -36,11 +36,15 @@ static void some_sequence(int damage) {
     }
 }
 
-/* a box that has lived: connections that stand, then anything; every fourth is fresh */
+/* a box that has lived: some listeners, on other lines connections that stand, then anything; every fourth is fresh */
 static void some_start(uint32_t turn, int damage) {
     static event e;
     uint32_t n = turn % 4 ? 40 + below(120) : 0;
     if (trawl_power_on(start, sizeof start) != 0) fail("power-on", NULL, turn);
+    for (uint32_t line = 0; n > 0 && line < 4; line++) {
+        connect_event(&e, line, 5, TRAWL_LISTEN_ONLY | ONE_OF(0, 0x100, 0x800, 0x900), 500000);
+        if (chance(20)) on_core(start, sizeof start, &e);
+    }
     for (uint32_t i = 0; i < n; i++) {
         if (i < OPENINGS) opening_event(&e, i);
         else random_event(&e, damage);

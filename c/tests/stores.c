@@ -9,7 +9,7 @@
 #include "iso_side.h"
 #include "random.h"
 
-enum { NARROW = 0, WIDE = 0x100, BOTH = 0x800, BOTH_TOO = 0x900, LISTENER = 0x10000000 }; /* flags of channels 1 to 4, and one that none has here */
+enum { NARROW = 0, WIDE = 0x100, BOTH = 0x800, BOTH_TOO = 0x900, LISTENER = 0x10000000 }; /* flags of channels 1 to 4 */
 enum { TEN = 10, ROW = 12, STORE = 1149, ROOM = 8192, GUARD = 16 };
 /* where things lie in a raw region */
 enum { FLAGS = 1, RATE = 5, LOOPBACK = 9, TYPES = 10, WIDES = 20, SIZES = 30, MASKS = 40, PATTERNS = 160, INTERVALS = RAW_PERIODICS,
@@ -401,13 +401,14 @@ static void examples(void) {
 
 /* ---- stores changed: every byte, every cut, every count, every long form ---- */
 
-/* the most there is: ten filters, ten periodics whose intervals have three bytes, flags of two */
+/* the most there is: ten filters, ten periodics whose intervals have three bytes, flags of two; a listener has no periodics, and flags of five */
 static size_t most(uint8_t *to, uint32_t flags) {
     setup s;
     memset(&s, 0, sizeof s);
     s.version = 2, s.flags = flags, s.filters = s.periodics = TEN, s.rate = 250000, s.loopback = 1;
+    if (flags & LISTENER) s.periodics = 0;
     for (uint32_t i = 0; i < TEN; i++) {
-        int wide = flags == WIDE || (flags != NARROW && i % 2);
+        int wide = flags & BOTH ? i % 2 : (flags & WIDE) != 0;
         uint8_t row[ROW] = {(uint8_t)(wide ? 0x18 : 0), 0, 7, (uint8_t)(0xE0 + i), 1, 2, 3, 4, 5, 6, 7, 8};
         s.filter[i].number = s.periodic[i].number = i + 1, s.filter[i].type = 1 + i % 2, s.periodic[i].interval = 65535 - i;
         clean(s.filter[i].mask, wide, 3 + i, row), clean(s.filter[i].pattern, wide, 3 + i, row);
@@ -502,14 +503,17 @@ static void changed_ones(void) {
 
 /* ---- limits, each with its code ---- */
 
+/* do these flags, a listener's too, take wide frames alone? */
+static int is_wide(uint32_t flags) { return (flags & BOTH_TOO) == WIDE; }
+
 /* a filter and a periodic, by the channel's flags */
 static void one_of_each(setup *s, uint32_t flags) {
     static const uint8_t row[ROW] = {0, 0, 7, 0xDF, 1, 2, 3, 4, 5, 6, 7, 8};
     memset(s, 0, sizeof *s);
     s->version = 2, s->flags = flags, s->filters = s->periodics = 1, s->rate = 500000;
     s->filter[0].number = s->filter[0].type = s->periodic[0].number = 1, s->periodic[0].interval = 100;
-    clean(s->filter[0].mask, flags == WIDE, 4, row), clean(s->filter[0].pattern, flags == WIDE, 4, row);
-    clean(s->periodic[0].record, flags == WIDE, 12, row);
+    clean(s->filter[0].mask, is_wide(flags), 4, row), clean(s->filter[0].pattern, is_wide(flags), 4, row);
+    clean(s->periodic[0].record, is_wide(flags), 12, row);
 }
 
 static void says(uint32_t code, uint32_t channel, const setup *s) {
@@ -640,6 +644,68 @@ static void limits(void) {
     begin(NARROW, WIDE, BOTH, BOTH_TOO);
     for (uint32_t channel = 1; channel <= 4; channel++) limits_on(channel);
     orders();
+}
+
+/* ---- listeners: their flag is saved, and with it a store has no periodic ---- */
+
+/* its own store of one filter, with its flags and no others; with a periodic, a bad one too, it is bad, whatever the channel */
+static void listener_loads(uint32_t channel) {
+    uint32_t flags = flags_of(channel);
+    setup s;
+    one_of_each(&s, flags), says(0x0A, channel, &s);
+    s.periodics = 0, says(0x00, channel, &s);
+    for (uint32_t other = 1; other <= 4; other++) says(other == channel ? 0x00 : 0x0A, other, &s);
+    s.loopback = 1, s.rate = 250000, s.filter[0].type = 2, says(0x00, channel, &s);
+    s.flags = flags - LISTENER, says(0x0A, channel, &s);
+    for (int bit = 0; bit < 32; bit++) s.flags = flags ^ (uint32_t)1 << bit, says(0x0A, channel, &s);
+    s.flags = 0, s.version = 1, says(0x0A, channel, &s);
+    s.flags = flags, s.version = 2, s.periodics = 1, says(0x0A, channel, &s);
+    s.periodic[0].interval = 4, says(0x0A, channel, &s);
+    s.periodics = TEN;
+    for (uint32_t i = 0; i < TEN; i++) s.periodic[i] = s.periodic[0], s.periodic[i].number = i + 1, s.periodic[i].interval = 5 + i;
+    says(0x0A, channel, &s);
+}
+
+/* its longest store: ten filters */
+static void listener_is_full(uint32_t channel) {
+    static uint8_t full[ROOM], out[ROOM];
+    size_t n = most(full, flags_of(channel)), length;
+    must(n == 752, "a listener's longest store");
+    gives(0x00, channel, full, n), each_byte(channel, full, n, 0), each_cut(channel, full, n);
+    must(loads(channel, full, n) == 0x00, "loaded");
+    for (size_t room = n - 3; room <= STORE; room += room < n + 3 ? 1 : 37)
+        must(saves(channel, room, out, &length) == (room < n ? 0x04 : 0x00), "a buffer's length");
+    put_back();
+}
+
+/* the third example with other flags: with its periodic bad, on the listener as elsewhere; without it the listener's */
+static void listener_third(void) {
+    static uint8_t changed[ROOM];
+    size_t n = 1 + 5, tail = PERIODIC_COUNT - FILTER_COUNT;
+    memcpy(changed, listener, n), memcpy(changed + n, third + FILTER_COUNT, sizeof third - FILTER_COUNT);
+    for (uint32_t channel = 1; channel <= 4; channel++) gives(0x0A, channel, changed, n + sizeof third - FILTER_COUNT);
+    changed[n + tail] = 0, memcpy(changed + n + tail + 1, third + RATE_AT, sizeof third - RATE_AT);
+    n += tail + 1 + sizeof third - RATE_AT;
+    for (uint32_t channel = 1; channel <= 4; channel++) gives(channel == 2 ? 0x00 : 0x0A, channel, changed, n);
+    each_byte(2, changed, n, 1), each_cut(2, changed, n);
+}
+
+static void listeners(void) {
+    static uint8_t out[ROOM];
+    size_t n;
+    begin(NARROW, LISTENER, LISTENER + WIDE, LISTENER + BOTH);
+    is_saved(2, listener, sizeof listener);
+    for (uint32_t channel = 1; channel <= 4; channel++) gives(channel == 2 ? 0x00 : 0x0A, channel, listener, sizeof listener);
+    for (uint32_t channel = 1; channel <= 4; channel++) gives(channel == 1 ? 0x00 : 0x0A, channel, nothing_set, sizeof nothing_set);
+    for (uint32_t channel = 1; channel <= 4; channel++) gives(channel == 1 ? 0x00 : 0x0A, channel, nothing_set_1, sizeof nothing_set_1);
+    for (size_t room = 0; room < 20; room++) must(saves(2, room, out, &n) == (room < sizeof listener ? 0x04 : 0x00), "a buffer's length");
+    put_back();
+    each_byte(2, listener, sizeof listener, 1), each_cut(2, listener, sizeof listener);
+    listener_third();
+    for (uint32_t channel = 2; channel <= 4; channel++) listener_loads(channel), listener_is_full(channel);
+    begin(LISTENER + BOTH_TOO, BOTH_TOO, LISTENER + BOTH, BOTH);
+    listener_loads(1), listener_is_full(1), listener_loads(3);
+    must(loads(1, flags_900, sizeof flags_900) == 0x0A && last_code(1) == 0x0A && last_code(2) == 0x00, "0x0A is kept");
 }
 
 /* ---- which channel, which buffer, which code is kept ---- */
@@ -820,7 +886,7 @@ static uint32_t some_id(int wide) {
 
 static void some_record(uint8_t *p, uint32_t flags, int of_filter) {
     uint8_t row[ROW];
-    int wide = flags & BOTH ? chance(50) : flags == WIDE;
+    int wide = flags & BOTH ? chance(50) : is_wide(flags);
     uint32_t size = of_filter ? 1 + below(12) : 4 + below(9);
     for (int i = 0; i < ROW; i++) row[i] = (uint8_t)(chance(50) ? any() : 0);
     clean(p, wide, size, row);
@@ -872,8 +938,9 @@ static void random_sets(uint32_t rounds) {
     static uint8_t store[ROOM], other[ROOM];
     size_t n, m;
     for (uint32_t r = 0; r < rounds; r++, sets++) {
-        if (r % 2) begin(NARROW, WIDE, BOTH, BOTH_TOO);
-        else begin(ONE_OF(NARROW, BOTH), ONE_OF(NARROW, WIDE), ONE_OF(BOTH, BOTH_TOO), ONE_OF(NARROW, WIDE, BOTH, BOTH_TOO));
+        uint32_t listens = chance(40) ? LISTENER : 0;
+        if (r % 2) begin(NARROW + listens, WIDE, BOTH + listens, BOTH_TOO);
+        else begin(ONE_OF(NARROW, BOTH), ONE_OF(NARROW, WIDE) + listens, ONE_OF(BOTH, BOTH_TOO), ONE_OF(NARROW, WIDE, BOTH, BOTH_TOO) + listens);
         for (uint32_t i = 10 + below(160); i > 0; i--) some_call(1 + below(4));
         alike(), keep();
         for (uint32_t from = 1; from <= 4; from++) {
@@ -903,6 +970,7 @@ int main(int argc, char **argv) {
     examples();
     changed_ones();
     limits();
+    listeners();
     channels();
     noted();
     rooms();

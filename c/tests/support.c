@@ -208,10 +208,12 @@ static uint8_t *put_clean(uint8_t *p, int wide, uint32_t least) {
     return p + TRAWL_RECORD;
 }
 
-/* a set-up for channels of some flags: few filters and periodics, with gaps; a byte of it may be off, or it is longer or shorter */
+/* a set-up for channels of some flags: few filters and periodics, with gaps; a byte of it may be off, or it is longer or shorter. Of listeners' ones
+ * most have no periodics, as it must be */
 static void some_store(event *e, int damage) {
     uint8_t room[TRAWL_STORE], *p = room;
-    uint32_t flags = ONE_OF(0, 0, 0x100, 0x800, 0x900), version = flags == 0 && chance(30) ? 1 : 2, n, k, i;
+    uint32_t listens = chance(25) ? TRAWL_LISTEN_ONLY : 0, flags = ONE_OF(0, 0, 0x100, 0x800, 0x900) | listens;
+    uint32_t version = flags == 0 && chance(30) ? 1 : 2, n, k, i;
     p = put_seven(p, version);
     if (version == 2) p = put_seven(p, flags);
     p = put_seven(p, n = below(4));
@@ -222,7 +224,7 @@ static void some_store(event *e, int damage) {
         for (uint32_t b = 24; b < 24 + 4 && p[16] > 4; b++) p[b] = (uint8_t)ONE_OF(0, 7, 0xFF), p[TRAWL_RECORD + b] &= p[b];
         p += 2 * TRAWL_RECORD;
     }
-    p = put_seven(p, n = below(4));
+    p = put_seven(p, n = listens && chance(70) ? 0 : below(4));
     for (i = 0, k = 0; i < n; i++) {
         p = put_seven(p, k += 1 + below(3));
         p = put_seven(put_clean(p, flags & 0x800 ? chance(50) : (flags & 0x100) != 0, 4), ONE_OF(5, 5, 6, 10, 100, 1000, 65535));
@@ -232,6 +234,13 @@ static void some_store(event *e, int damage) {
     if (chance((uint32_t)damage)) room[below(n)] = (uint8_t)(chance(50) ? below(14) : any());
     lend(&e->first, chance((uint32_t)damage / 2) ? below(n + 2) : n);
     memcpy(bytes(&e->first), room, e->first.n < n ? e->first.n : n);
+}
+
+/* the flags of a connect: every fifth on raw CAN is a listener's; with another protocol that is damage */
+static uint32_t some_connection(uint32_t protocol, int damage) {
+    uint32_t flags = ONE_OF(0, 0x100, 0x800, 0x900);
+    if (chance(protocol == 5 ? 20 : (uint32_t)damage)) flags |= TRAWL_LISTEN_ONLY;
+    return off(flags, damage);
 }
 
 void random_event(event *e, int damage) {
@@ -250,7 +259,7 @@ void random_event(event *e, int damage) {
     e->a = channel;
     switch (e->kind) {
     case CONNECT:
-        e->a = off(below(4), damage), e->b = off(chance(60) ? 5 : 6, damage), e->c = off(ONE_OF(0, 0x100, 0x800, 0x900), damage);
+        e->a = off(below(4), damage), e->b = off(chance(60) ? 5 : 6, damage), e->c = some_connection(e->b, damage);
         e->d = off(ONE_OF(125000, 250000, 250000, 500000, 500000), damage);
         break;
     case ADVANCE:

@@ -45,7 +45,13 @@ static inline int takes(uint32_t flags, int wide) {
 
 static inline int in_range(uint32_t id, int wide) { return id <= (wide ? 0x1FFFFFFFu : 0x7FFu); }
 
+/* ---- flags of connections: on raw CAN also the listeners' ---- */
+
+#define LISTENER 0x10000000u
+
 static inline int is_flags(uint32_t f) { return (f & ~(uint32_t)0x900) == 0; }
+static inline int is_raw_flags(uint32_t f) { return is_flags(f & ~LISTENER); }
+static inline int listens(uint32_t f) { return (f & LISTENER) != 0; }
 
 /* ---- rates: what a memory may hold, and what connect and set take: 125,000 is retired ---- */
 

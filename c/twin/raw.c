@@ -120,10 +120,14 @@ static int is_last(uint8_t code) {
     }
 }
 
+/* what a listener never has */
+static int sends(const channel_t *c) { return c->written || c->flying || !zeros(c->interval, sizeof c->interval) || link_there(&c->link); }
+
 static int good_channel(const channel_t *c) {
     uint32_t flags = get32(c->flags);
     if (c->open == 0) return zeros(c, sizeof *c);
-    if (c->open > 1 || !is_flags(flags) || !is_rate(get32(c->rate)) || c->loopback > 1 || c->lost > 1 || !is_last(c->last)) return 0;
+    if (listens(flags) && sends(c)) return 0;
+    if (c->open > 1 || !is_raw_flags(flags) || !is_rate(get32(c->rate)) || c->loopback > 1 || c->lost > 1 || !is_last(c->last)) return 0;
     for (int i = 0; i < FILTERS; i++)
         if (!good_filter(c, i, flags)) return 0;
     if (!maps_fit(c)) return 0;
@@ -143,7 +147,7 @@ int raw_valid(const uint8_t *m) {
 
 void raw_remake_maps(uint8_t *m, uint32_t channel) { maps(&device(m)->line[channel - 1]); }
 
-/* ---- finding the channel: 0x02 ---- */
+/* ---- finding the channel: 0x02; then, for what a listener doesn't do, 0x01 ---- */
 
 static int is_open(const device_t *d, uint32_t number) { return number >= 1 && number <= 4 && d->line[number - 1].open; }
 
@@ -157,6 +161,11 @@ static uint32_t find(uint8_t *m, uint32_t number, channel_t **c) {
 static uint32_t noted(channel_t *c, uint32_t code) {
     if (code) c->last = (uint8_t)code;
     return code;
+}
+
+static uint32_t find_sender(uint8_t *m, uint32_t number, channel_t **c) {
+    uint32_t code = find(m, number, c);
+    return code || !listens(get32((*c)->flags)) ? code : noted(*c, 0x01);
 }
 
 static int shorter(size_t len, uint32_t n) { return (uint64_t)len < (uint64_t)RECORD * n; }
@@ -205,7 +214,7 @@ uint32_t raw_connect(uint8_t *m, uint32_t line, uint32_t protocol, uint32_t flag
     device_t *d = device(m);
     *channel = 0;
     if (protocol != 5) return 0x03;
-    if (!is_flags(flags)) return 0x06;
+    if (!is_raw_flags(flags)) return 0x06;
     if (!takes_rate(rate)) return 0x19;
     if (line > 3) return 0x13;
     if (d->line[line].open) return noted(&d->line[line], 0x14);
@@ -568,7 +577,7 @@ uint32_t raw_stop_filter(uint8_t *m, uint32_t channel, uint32_t number) {
 
 uint32_t raw_start_periodic(uint8_t *m, uint32_t channel, const uint8_t *message, size_t message_len, uint32_t interval, uint32_t *number) {
     channel_t *c;
-    uint32_t code = find(m, channel, &c);
+    uint32_t code = find_sender(m, channel, &c);
     *number = 0;
     return code ? code : noted(c, start_periodic(c, message, message_len, interval, number));
 }
@@ -581,7 +590,7 @@ uint32_t raw_stop_periodic(uint8_t *m, uint32_t channel, uint32_t number) {
 
 uint32_t raw_write(uint8_t *m, uint32_t channel, uint32_t n, const uint8_t *b, size_t b_len, uint32_t *count) {
     channel_t *c;
-    uint32_t code = find(m, channel, &c);
+    uint32_t code = find_sender(m, channel, &c);
     *count = 0;
     return code ? code : noted(c, put_records(c, n, b, b_len, count));
 }
@@ -595,13 +604,13 @@ uint32_t raw_read(uint8_t *m, uint32_t channel, uint32_t n, uint8_t *b, size_t b
 
 uint32_t raw_take(uint8_t *m, uint32_t channel, uint8_t *b, size_t b_len) {
     channel_t *c;
-    uint32_t code = find(m, channel, &c);
+    uint32_t code = find_sender(m, channel, &c);
     return code ? code : noted(c, take(c, b, b_len));
 }
 
 uint32_t raw_sent(uint8_t *m, uint32_t channel) {
     channel_t *c;
-    uint32_t code = find(m, channel, &c);
+    uint32_t code = find_sender(m, channel, &c);
     return code ? code : noted(c, sent(c, get32(((device_t *)m)->clock)));
 }
 
@@ -658,9 +667,9 @@ uint32_t raw_load(uint8_t *m, uint32_t channel, const uint8_t *store, size_t n) 
 
 /* ---- TP2.0 connections: the channel must take narrow frames, before anything else of the call ---- */
 
-/* 0x02, 0x0A of the width, or 0 */
+/* 0x02, 0x01 of a listener, 0x0A of the width, or 0 */
 static uint32_t find_narrow(uint8_t *m, uint32_t channel, channel_t **c) {
-    uint32_t code = find(m, channel, c);
+    uint32_t code = find_sender(m, channel, c);
     return code ? code : takes(get32((*c)->flags), 0) ? 0 : noted(*c, 0x0A);
 }
 
@@ -680,7 +689,7 @@ uint32_t raw_link_send(uint8_t *m, uint32_t channel, const uint8_t *message, siz
 /* a short buffer before the width */
 uint32_t raw_link_receive(uint8_t *m, uint32_t channel, uint8_t *b, size_t b_len, uint32_t *length) {
     channel_t *c;
-    uint32_t code = find(m, channel, &c);
+    uint32_t code = find_sender(m, channel, &c);
     *length = 0;
     if (code) return code;
     if (b_len < LINK_MESSAGE) return noted(c, 0x04);

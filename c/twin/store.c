@@ -102,7 +102,7 @@ static void read_periodics(input *in, store_setup *to) {
         const uint8_t *r;
         at = next(in, at), r = raw(in, STORE_RECORD), interval = number(in);
         if (in->bad) return;
-        if (!is_clean(r, 4) || interval < 5 || interval > 65535) in->bad = 1;
+        if (!is_clean(r, 4) || interval < 5 || interval > 65535 || listens(to->flags)) in->bad = 1;
         if (!takes(to->flags, is_wide(r)) || !in_range(identifier(r + NUMBERS), is_wide(r))) in->bad = 1;
         to->periodic[at - 1].interval = interval;
         memcpy(to->periodic[at - 1].record, r, STORE_RECORD);
