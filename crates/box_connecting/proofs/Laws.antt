@@ -22,6 +22,7 @@ use Rattle.layout.specs.Memory.{region}
 use Rattle.layout.specs.Promise as raw-promise
 use Rattle.layout.specs.Promise.{Result, gives, regionGives}
 use Rattle.connecting.proofs.Laws.{more-tests, no-more-tests}
+use Rattle.iso_connecting.proofs.Laws as iso-laws
 use Rattle.iso.specs.Limits.{isoProtocol}
 use Rattle.iso.specs.Iso.{isoConnectCode, onIsoConnect, isoNoted, isoNotedInUse}
 use Rattle.iso.proofs.Fair.{in-use-ready, iso-connect-fair}
@@ -41,18 +42,7 @@ use Rattle.memory.proofs.Entry.{Kind, rawKind, isoKind, marked-here, noted-imag
 
 -- ---- a connect that names no channel
 
--- a connect of either protocol passes the same tests behind that of its protocol
-same-tests : (rates : List ℕ) (f r : ℕ) (more : List (Bool × ℕ)) → isoConnectCode rates isoProtocol f r more ≡ connectCode rates canProtocol f r more
-unfolding isoConnectCode connectCode codeOf
-same-tests rates f r more = refl
-
 module _ (rates : List ℕ) (p f r : ℕ) where
-  -- so that its tests are a raw connect's, of the raw protocol where it is ISO 15765
-  as-raw : (more : List (Bool × ℕ)) → (b : Bool) → eqb p isoProtocol ≡ b
-      → (if b then isoConnectCode rates p f r more else connectCode rates p f r more) ≡ connectCode rates (if b then canProtocol else p) f r more
-  as-raw more true q = ap (λ (n : ℕ). isoConnectCode rates n f r more) (eqb-true p isoProtocol q) ∙ same-tests rates f r more
-  as-raw more false q = refl
-
   abbrev told : List (Bool × ℕ) → ℕ
   told more = if eqb p isoProtocol then isoConnectCode rates p f r more else connectCode rates p f r more
 
@@ -62,26 +52,35 @@ module _ (rates : List ℕ) (p f r : ℕ) where
   pub of-others : (p ≡ isoProtocol → ⊥) → (k : ℕ) → k ≡ connectCode rates p f r [] → k ≡ told []
   of-others n k e = e ∙ sym (ap (λ (b : Bool). if b then isoConnectCode rates p f r [] else connectCode rates p f r []) (ne-eqb p isoProtocol n))
 
+  -- the line comes into play where the tests of the protocol give no code
+  more-told : (more : List (Bool × ℕ)) → told [] ≡ 0 → told more ≡ codeOf more
+  more-told more = by (eqb p isoProtocol)
+    where
+      by : (b : Bool) → (if b then isoConnectCode rates p f r [] else connectCode rates p f r []) ≡ 0 → (if b then isoConnectCode rates p f r more else connectCode rates p f r more) ≡ codeOf more
+      by true = iso-laws.more-tests rates p f r more
+      by false = more-tests rates p f r more
+
+  no-more-told : (more : List (Bool × ℕ)) → (told [] ≡ 0 → ⊥) → told more ≡ told []
+  no-more-told more = by (eqb p isoProtocol)
+    where
+      by : (b : Bool) → ((if b then isoConnectCode rates p f r [] else connectCode rates p f r []) ≡ 0 → ⊥)
+          → (if b then isoConnectCode rates p f r more else connectCode rates p f r more) ≡ (if b then isoConnectCode rates p f r [] else connectCode rates p f r [])
+      by true = iso-laws.no-more-tests rates p f r more
+      by false = no-more-tests rates p f r more
+
   module _ (m : List ℕ) (line : ℕ) (v : T (valid m)) (out : connected line p ≡ none) (c : ℕ) (e : c ≡ told []) where
-    abbrev q : ℕ
-    q = if eqb p isoProtocol then canProtocol else p
-
-    -- the code that was found
-    found : c ≡ connectCode rates q f r []
-    found = e ∙ as-raw [] (eqb p isoProtocol) refl
-
-    by-code : (k : ℕ) → k ≡ connectCode rates q f r ((true, 0x13) ∷ []) → gives k 0 [] m ≡ outcome rates m (connect line p f r)
+    by-code : (k : ℕ) → k ≡ told ((true, 0x13) ∷ []) → gives k 0 [] m ≡ outcome rates m (connect line p f r)
     unfolding ownAnswer says
     by-code k z =
-        ap (λ (n : ℕ). gives n 0 [] m) (z ∙ sym (as-raw ((true, 0x13) ∷ []) (eqb p isoProtocol) refl))
+        ap (λ (n : ℕ). gives n 0 [] m) z
         ∙ unmoved m v rates (connect line p f r) (ownAnswer rates (connect line p f r)) (step-no-connect rates (load m) line p f r (ok-sane (load m) (ok-load m v) .eight) out)
 
     pub refused : (c ≡ 0 → ⊥) → gives c 0 [] m ≡ outcome rates m (connect line p f r)
-    refused n = by-code c (found ∙ sym (no-more-tests rates q f r ((true, 0x13) ∷ []) (λ z. n (found ∙ z))))
+    refused n = by-code c (e ∙ sym (no-more-told ((true, 0x13) ∷ []) (λ z. n (e ∙ z))))
 
     pub no-such-line : c ≡ 0 → gives 0x13 0 [] m ≡ outcome rates m (connect line p f r)
     unfolding codeOf
-    no-such-line z = by-code 0x13 (sym (more-tests rates q f r ((true, 0x13) ∷ []) (sym found ∙ z)))
+    no-such-line z = by-code 0x13 (sym (more-told ((true, 0x13) ∷ []) (sym e ∙ z)))
 
 -- a line over the last names none, and so does a protocol that is neither
 pub no-line : (l p : ℕ) → lines ≤ l → connected l p ≡ none

@@ -106,7 +106,7 @@ fn run(names: &[u8]) {
 }
 
 // Runs every case: those that the scope names, then those of recordings as such, connecting, starting filters, matching, the queue, writing,
-// taking, ISO 15765 channels, the longest recordings, and editions.
+// taking, ISO 15765 channels, the longest recordings, editions, and listeners.
 fn main() {
     run(
         b"whole-example lost-full-read periodic-case \
@@ -125,6 +125,7 @@ fn main() {
         size-32768 size-32769 \
         p12-edition-2 p12-no-edition p12-order p12-old-rate p12-alone p12-late p12-twice p12-twice-late \
         p12-bad-0 p12-bad-1 p12-bad-3 p12-bad-300 p12-cut-short p12-bad-long-form p12-long-event \
-        p12-size-32768 p12-overlong",
+        p12-size-32768 p12-overlong \
+        p14-listener p14-protocol-6",
     );
 }

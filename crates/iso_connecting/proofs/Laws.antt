@@ -47,11 +47,11 @@ module _ (rates : List ℕ) (p f r : ℕ) (more : List (Bool × ℕ)) where
   abbrev three : List (Bool × ℕ)
   three = (not (eqb p isoProtocol), 0x03) ∷ (not (isFlags f), 0x06) ∷ (not (member r rates), 0x19) ∷ []
 
-  more-tests : isoConnectCode rates p f r [] ≡ 0 → isoConnectCode rates p f r more ≡ codeOf more
+  pub more-tests : isoConnectCode rates p f r [] ≡ 0 → isoConnectCode rates p f r more ≡ codeOf more
   unfolding isoConnectCode
   more-tests = tables.more-tests three more tt
 
-  no-more-tests : (isoConnectCode rates p f r [] ≡ 0 → ⊥) → isoConnectCode rates p f r more ≡ isoConnectCode rates p f r []
+  pub no-more-tests : (isoConnectCode rates p f r [] ≡ 0 → ⊥) → isoConnectCode rates p f r more ≡ isoConnectCode rates p f r []
   unfolding isoConnectCode
   no-more-tests = tables.no-more-tests three more
 

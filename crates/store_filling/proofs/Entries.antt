@@ -6,10 +6,10 @@ use mathlib.Core.Option.{Option, none, some, Option·map}
 use mathlib.Core.List.{List, [], _∷_}
 use native.Mathlib.Omega.{arith}
 use borrow.Author.Tests.{leb-true}
-use lib.Dec.{leb, eqb, eqb→eq}
+use lib.Dec.{leb, eqb, eqb→eq, T}
 use lib.ListN.{length, take, drop}
 use Rattle.codec.specs.Plain.{if_then_else_, within}
-use Rattle.codec.proofs.Tests.{join, within-low, within-high}
+use Rattle.codec.proofs.Tests.{join, within-low, within-high, left, right}
 use Rattle.number.specs.declared.Number.{Number}
 use Rattle.number.specs.declared.Number.the-variants.{Value, Bad}
 use Rattle.number.specs.Number.{Found, numberIn}
@@ -19,7 +19,7 @@ use Rattle.machine.specs.Limits.{mostPlaces, recordSize}
 use Rattle.machine.specs.Message.{Rec, clean, messageCode}
 use Rattle.machine.specs.Filter.{Slots, Filter, free, noneYet}
 use Rattle.machine.specs.Store.{isClean, cleanIn, eachIn, placed, slotsIn}
-use Rattle.machine.specs.Channel.{filterCode, filterOf, periodicCode, blank, filterIn, periodicIn}
+use Rattle.machine.specs.Channel.{filterCode, filterOf, periodicCode, blank, filterIn, periodicIn, listens}
 use Rattle.machine.proofs.Tables.{failed, own-code, yes}
 use Rattle.setups.specs.Saved.{Rising, filled}
 use Rattle.setups.proofs.Filling.{filled-placed}
@@ -113,6 +113,7 @@ filter-read flags s at f next e v a j k there ej ek =
 
 pub record PeriodicRead (flags : ℕ) (s : List ℕ) (at j v n : ℕ) (p : Rec × ℕ) (next : ℕ) : Type 0 where
   pub good : messageCode flags (take j (drop at s)) ≡ 0
+  pub speaks : T (not (listens flags))
   pub is : (clean (take j (drop at s)), v) ≡ p
   pub ends : n ≡ next
 
@@ -138,9 +139,10 @@ periodic-read flags s at p next e j v n there ej =
     let m = record-read s at (x .what) (x .place) (x .first) in
     let here = there i (y .place) (ap (number s) (sym (m .ends)) ∙ y .first) in
     let message : x .what ≡ take j (drop at s) = m .is ∙ ap (λ (l : ℕ). take l (drop at s)) (sym ej) in
-    let d = where-there (eqb (periodicCode (blank flags 0) (x .what) i) 0) (clean (x .what), i) p s (y .place) next (y .rest) in
-    let k : periodicCode (blank flags 0) (x .what) i ≡ 0 = eqb→eq _ 0 (d .0) in
+    let d = where-there (not (listens flags) && eqb (periodicCode (blank flags 0) (x .what) i) 0) (clean (x .what), i) p s (y .place) next (y .rest) in
+    let k : periodicCode (blank flags 0) (x .what) i ≡ 0 = eqb→eq _ 0 (right (not (listens flags)) _ (d .0)) in
     record {
+      speaks = left (not (listens flags)) _ (d .0);
       good = message-passed flags (take j (drop at s)) i (ap (λ (u : List ℕ). periodicCode (blank flags 0) u i) (sym message) ∙ k);
       is = (λ q. (clean (sym message q), here .0 q)) ∙ d .1 .0;
       ends = here .1 ∙ d .1 .1;

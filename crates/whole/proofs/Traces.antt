@@ -2,3 +2,4 @@
 pub mod Words
 pub mod Beside
 pub mod Connections
+pub mod Listening

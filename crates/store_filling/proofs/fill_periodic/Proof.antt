@@ -43,7 +43,7 @@ start-at-requires c κs =
     let h : a + recordSize ≤ length store = inside (s .before) in
     let q = periodic-read k store a (room .entry .what) (room .entry .next) (room .entry .read) (a + recordSize - a) (s .number-there .result .value) (s .number-there .result .next) (s .number-there .ensures) (wide a) in
     let long : length (take (a + recordSize - a) (drop a store)) ≡ a + recordSize - a = length-take-le (a + recordSize - a) (drop a store) (omega (arith, length-drop a store)) in
-    (record { part = record { flags = k; long = room .long ∙ periodics-size k; valid = room .valid }; long = omega arith; good = q .good }, start .pre .1)
+    (record { part = record { flags = k; long = room .long ∙ periodics-size k; valid = room .valid }; long = omega arith; good = q .good; speaks = q .speaks }, start .pre .1)
 
 returns : tie.Need-returns
 unfolding startsAnew periodicOf
