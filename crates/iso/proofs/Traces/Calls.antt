@@ -6,12 +6,14 @@ use Rattle.machine.specs.Channel.{says, disconnect, startFilter, startFlow, sto
 use Rattle.machine.specs.Step.{connect, call, frame, advance, close}
 use Rattle.iso.proofs.Traces.Words.{_⇒_, answered, Happens, asTold, HappensNow, asToldNow, done, gives, code, room, raw536, message6, lent6, got6, told6, talk, took, tookNone, count}
 
--- example 1, as far as it is this channel's: the tests of a connect in order, its own rate, parameters, disconnect and close
+-- example 1, as far as it is this channel's: the tests of a connect in order, the listeners' flag among the bad ones, its own rate, parameters, disconnect and close
 pub connecting : Happens
     (call 5 sent ⇒ code 0x02
     ∷ connect 0 7 1 1 ⇒ code 0x03
     ∷ connect 0 262 0 500000 ⇒ code 0x03
     ∷ connect 0 6 1 1 ⇒ code 0x06
+    ∷ connect 0 6 0x1000_0000 500000 ⇒ code 0x06
+    ∷ connect 0 6 0x1000_0900 1 ⇒ code 0x06
     ∷ connect 0 6 0 1 ⇒ code 0x19
     ∷ connect 0 6 0 500000 ⇒ gives 5
     ∷ connect 0 6 0 1 ⇒ code 0x19
