@@ -189,7 +189,7 @@ fn head(store: &[u8]) {
         periodics(store, filters(store, flags.next, false), false),
     );
     number(b"version ", item_at(store, 0).value);
-    hex(b", flags 0x", flags.value);
+    trace_words::flags(flags.value);
     number(b", ", rate.value);
     number(b" bit/s, loopback ", item_at(store, rate.next).value);
 }

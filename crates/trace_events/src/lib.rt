@@ -185,7 +185,7 @@ pub fn plain(recording: &[u8], e: Plain) {
 fn connect(line: u32, protocol: u32, flags: u32, rate: u32) {
     number(b"connect line ", line);
     named(b", protocol ", protocol, b",,,,,CAN,ISO15765");
-    hex(b", flags 0x", flags);
+    trace_words::flags(flags);
     number(b", ", rate);
     text(b" bit/s");
 }

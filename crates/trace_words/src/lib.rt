@@ -154,3 +154,11 @@ pub fn bad(at: usize) {
     text(b"bad event at byte ");
     io::print_decimal(STDOUT_FILENO, at as u64);
 }
+
+// The flags of a connection, a listener's in a word too.
+pub fn flags(n: u32) {
+    hex(b", flags 0x", n);
+    if can::listens(n) {
+        text(b" (listen-only)");
+    }
+}
