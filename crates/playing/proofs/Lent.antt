@@ -14,7 +14,7 @@ use Rattle.codec.specs.Plain.{if_then_else_, within}
 use Rattle.machine.specs.Limits.{lines, recordSize}
 use Rattle.machine.specs.Codes.{codeOf}
 use Rattle.machine.specs.Message.{Rec, shown, shownAll}
-use Rattle.machine.specs.Channel.{Chan, closed, opened, Open, Call, read, takeNext, lent, Answer, says, withSending, withReceiving, unless, shorter, readCode, reading, onRead, Next, next, giving, chosen, withLink, telegram, mayGo, chosenOr, taking, onTake, onOpen, onCall, rawOnly}
+use Rattle.machine.specs.Channel.{Chan, closed, opened, Open, Call, read, takeNext, lent, Answer, says, withSending, withReceiving, unless, shorter, readCode, reading, onRead, Next, next, giving, chosen, withLink, telegram, mayGo, chosenOr, taking, onTake, onOpen, onCall, rawOnly, listens}
 use Rattle.link.specs.Connection.{Offer}
 use Rattle.machine.specs.Step.{call}
 use Rattle.iso.specs.Limits.{firstIso, isoRecordSize}
@@ -121,7 +121,12 @@ raw-read rates n now (opened o) = open-read o n (eqb n 0) refl
 raw-take : (rates : List ℕ) (now : ℕ) (c : Chan) → Gives recordSize (OneOrNone recordSize) (λ (b : List ℕ). onCall rates now c (takeNext b))
 unfolding onCall onOpen lent
 raw-take rates now closed = nothing recordSize (OneOrNone recordSize) (λ b. onCall rates now closed (takeNext b)) closed 0x02 refl (λ b h. refl)
-raw-take rates now (opened o) = open-take o
+raw-take rates now (opened o) = by (listens (o .config .flags))
+  where
+    -- a listener gives none
+    by : (m : Bool) → Gives recordSize (OneOrNone recordSize) (λ (b : List ℕ). if m then (opened o, says 0x01 0 b) else onTake o b)
+    by true = nothing recordSize (OneOrNone recordSize) (λ b. (opened o, says 0x01 0 b)) (opened o) 0x01 refl (λ b h. refl)
+    by false = open-take o
 
 -- ---- on an ISO 15765 channel
 
