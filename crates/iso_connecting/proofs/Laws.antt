@@ -11,9 +11,10 @@ use borrow.Rule.Slice.PartMut.{putMid}
 use Rattle.codec.specs.Plain.{member, zeros}
 use Rattle.codec.specs.Word.{word}
 use Rattle.machine.specs.Codes.{codeOf}
-use Rattle.machine.specs.Channel.{says, isFlags, disconnect}
+use Rattle.machine.specs.Channel.{says, listens, isFlags, connectCode, disconnect}
 use Rattle.layout.specs.Sizes.{flagsAt, rateAt, loopbackAt, numberSize}
 use Rattle.layout.specs.Promise.{gives}
+use Rattle.layout.proofs.Held.{listener-not-plain, raw-or-plain}
 use Rattle.machine.proofs.Tables as tables
 use Rattle.iso.specs.Limits.{isoProtocol, firstIso}
 use Rattle.iso.specs.Iso.{Iso, shut, ready, IsoOutcome, unlessIso, did, isReady, isoConnectCode, freshIso, onIsoConnect, onReady}
@@ -23,24 +24,22 @@ use Rattle.iso_layout.specs.Promise.{IsoOpened, isoGives, isoOutcome}
 use Rattle.iso_layout.proofs.Sizes.{shut-zeros, fresh-iso-is}
 use Rattle.iso_layout.proofs.Region.{again, is-shut, shut-bytes, not-shut, is-ready, moves}
 
--- ---- the tests
+-- ---- the tests: but for the protocol and the listeners' flag those of any connect
 
 module _ (rates : List ℕ) (p f r : ℕ) where
   pub bad-protocol : (p ≡ 6 → ⊥) → 3 ≡ isoConnectCode rates p f r []
   unfolding isoConnectCode codeOf
   bad-protocol h = rw (ne-eqb p 6 h)
 
-  pub bad-flags : p ≡ 6 → isFlags f ≡ false → 6 ≡ isoConnectCode rates p f r []
+  -- a listener's flags are none's here
+  pub no-listener : p ≡ 6 → listens f ≡ true → 6 ≡ isoConnectCode rates p f r []
   unfolding isoConnectCode codeOf
-  bad-flags h g = rw (eq-eqb p 6 h) (rw g refl)
+  no-listener h l = rw (eq-eqb p 6 h) (rw (listener-not-plain f l) refl)
 
-  pub bad-rate : p ≡ 6 → isFlags f ≡ true → member r rates ≡ false → 25 ≡ isoConnectCode rates p f r []
-  unfolding isoConnectCode codeOf
-  bad-rate h g m = rw (eq-eqb p 6 h) (rw g (rw m refl))
-
-  pub good-connect : p ≡ 6 → isFlags f ≡ true → member r rates ≡ true → 0 ≡ isoConnectCode rates p f r []
-  unfolding isoConnectCode codeOf
-  good-connect h g m = rw (eq-eqb p 6 h) (rw g (rw m refl))
+  -- all others are those of a raw connect
+  pub good-protocol : p ≡ 6 → listens f ≡ false → (k : ℕ) → k ≡ connectCode rates 5 f r [] → k ≡ isoConnectCode rates p f r []
+  unfolding isoConnectCode connectCode codeOf
+  good-protocol h l k e = e ∙ rw (eq-eqb p 6 h) (rw (raw-or-plain f l) refl)
 
 -- the test of the line comes into play where those three give no code
 module _ (rates : List ℕ) (p f r : ℕ) (more : List (Bool × ℕ)) where

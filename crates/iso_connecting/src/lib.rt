@@ -16,20 +16,18 @@ use codes::Answer;
 // The channel number of line 0.
 const FIRST: u32 = 5;
 
-// The code of a connect by its protocol, flags, a listener's not among them, and rate, which is one of those lent.
+// The code of a connect by its protocol, flags and rate, which is one of those lent: but for the protocol and the listeners' flag the tests of any
+// connect.
 pub fn connect_code(rates: &[u32], protocol: u32, flags: u32, rate: u32) -> u32
     ensures { λ r. ⌜ r ≡ isoConnectCode (now (rates .entry)) protocol flags rate [] ⌝ }
 {
     if protocol != iso_records::PROTOCOL {
         return codes::ERR_INVALID_PROTOCOL_ID;
     }
-    if !can::is_flags(flags) {
+    if can::listens(flags) {
         return codes::ERR_INVALID_FLAGS;
     }
-    if !can::is_rate(rates, rate) {
-        return codes::ERR_INVALID_BAUDRATE;
-    }
-    codes::STATUS_NOERROR
+    connecting::connect_code(rates, can::PROTOCOL, flags, rate)
 }
 
 // Connect: a closed channel's region becomes that of a fresh one.

@@ -4,10 +4,10 @@ use Prim.Native.Nat.{ℕ, _^_, _<_}
 use mathlib.Core.List.{List}
 use lib.Dec.{T}
 use Rattle.codec.proofs.Lists.{all-at}
-use Rattle.machine.specs.Channel.{Open, closed, opened}
+use Rattle.machine.specs.Channel.{Open, closed, opened, listens}
 use Rattle.layout.specs.Memory.{region}
 use Rattle.layout.proofs.Good.{Fine, fine-closed, ok-good}
-use Rattle.layout.proofs.Limits.{Limits, good-limits}
+use Rattle.layout.proofs.Limits.{Limits, good-limits, Silent, listener-silent}
 use Rattle.iso.specs.Iso.{OpenIso, shut, ready}
 use Rattle.iso_layout.specs.Region.{isoRegion}
 use Rattle.iso_layout.proofs.Good.{FineIso, iso-good, fine-shut}
@@ -26,6 +26,10 @@ module _ (m : List ℕ) (v : T (valid m)) where
   unfolding chanAt
   channel-limits i o e =
       good-limits o (ok-good o (subst Fine e (all-at (region .ok) (load m .chans) i closed fine-closed (ok-sane (load m) (ok-load m v) .each-fine))))
+
+  -- A LISTENER IN A VALID MEMORY HOLDS NOTHING THAT COULD BE SENT
+  pub listener-limits : (i : ℕ) (o : Open) → chanAt i (load m) ≡ opened o → T (listens (o .config .flags)) → Silent o
+  listener-limits i o e t = listener-silent o (channel-limits i o e) t
 
   pub iso-channel-limits : (i : ℕ) (o : OpenIso) → isoAt i (load m) ≡ ready o → iso-limits.Limits o
   unfolding isoAt
