@@ -361,6 +361,7 @@ static void module_data(line *l, const uint8_t *b, uint32_t n) {
         return;
     }
     if (b[0] % 16 != m->expected) {
+        if (n == 1) m->heard_n = 0, m->broke = 0; /* broken off where a telegram that it has was to go once more: no other end of it comes */
         acknowledge(l, 1);
         return;
     }
