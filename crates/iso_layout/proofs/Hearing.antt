@@ -377,7 +377,9 @@ pub arrive_ok : (flags : ℕ) (r : Receiving) (xs : List Rec) → T ((up_to most
 unfolding arrive_iso
 arrive_ok flags r [] t u = t
 arrive_ok flags r (x ∷ xs) t u =
-    arrive_ok flags _ xs
+    arrive_ok flags
+    (if ltb (length r.queue) most_heard then record { queue = r.queue ++ x ∷ []; lost = r.lost }
+    else record { queue = r.queue; lost = true }) xs
     (by_test (λ (q : Receiving). T ((up_to most_heard (heard_cell flags)).ok q.queue)) (ltb (length r.queue) most_heard) _ _
     (λ v. up_to_more most_heard (heard_cell flags) r.queue x t (ltb→lt _ _ v) (left ((heard_cell flags).ok x) (all (heard_cell flags).ok xs) u)) t)
     (right ((heard_cell flags).ok x) (all (heard_cell flags).ok xs) u)

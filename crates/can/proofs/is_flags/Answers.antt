@@ -1,0 +1,12 @@
+-- `can::is_flags` meets its contract: the list of flags, test by test. Assumes nothing.
+use mathlib.Core.Bool.{or-false}
+use Rattle.machine.specs.Channel.{is_flags}
+use Rattle.codec.specs.Plain.{member}
+use lib.Dec.{eqb}
+use mathlib.Core.Bool.{Bool, ◌||◌}
+use mathlib.Core.Path.{sym, ap}
+use Rattle.can.proofs.is_flags.Goals as goal
+
+pub returns : goal.returns
+unfolding is_flags member
+returns c = let f = c.args.flags in ap (λ (b : Bool). eqb f 0 || (eqb f 0x100 || (eqb f 0x800 || b))) (sym (or-false (eqb f 0x900)))
