@@ -19,10 +19,10 @@ use Rattle.machine.specs.Demands.{refusal, results, part_done}
 use Rattle.machine.proofs.Refusals.{in_use_open, connect_fair}
 use Rattle.layout.specs.Sizes.{region_size}
 use Rattle.layout.specs.Memory.{region}
-use Rattle.layout.specs.Promise as raw-promise
+use Rattle.layout.specs.Promise as raw_promise
 use Rattle.layout.specs.Promise.{Result, gives, region_gives}
 use Rattle.connecting.proofs.Laws.{more_tests, no_more_tests}
-use Rattle.iso_connecting.proofs.Laws as iso-laws
+use Rattle.iso_connecting.proofs.Laws as iso_laws
 use Rattle.iso.specs.Limits.{iso_protocol}
 use Rattle.iso.specs.Iso.{iso_connect_code, on_iso_connect, iso_noted, iso_noted_in_use}
 use Rattle.iso.proofs.Fair.{in_use_ready, iso_connect_fair}
@@ -57,7 +57,7 @@ module _ (rates : List ℕ) (p f r : ℕ) where
   more_told more = by (eqb p iso_protocol)
     where
       by : (b : Bool) → (if b then iso_connect_code rates p f r [] else connect_code rates p f r []) ≡ 0 → (if b then iso_connect_code rates p f r more else connect_code rates p f r more) ≡ code_of more
-      by true = iso-laws.more_tests rates p f r more
+      by true = iso_laws.more_tests rates p f r more
       by false = more_tests rates p f r more
 
   no_more_told : (more : List (Bool × ℕ)) → (told [] ≡ 0 → ⊥) → told more ≡ told []
@@ -65,7 +65,7 @@ module _ (rates : List ℕ) (p f r : ℕ) where
     where
       by : (b : Bool) → ((if b then iso_connect_code rates p f r [] else connect_code rates p f r []) ≡ 0 → ⊥)
           → (if b then iso_connect_code rates p f r more else connect_code rates p f r more) ≡ (if b then iso_connect_code rates p f r [] else connect_code rates p f r [])
-      by true = iso-laws.no_more_tests rates p f r more
+      by true = iso_laws.no_more_tests rates p f r more
       by false = no_more_tests rates p f r more
 
   module _ (m : List ℕ) (line : ℕ) (v : T (valid m)) (out : connected line p ≡ none) (c : ℕ) (e : c ≡ told []) where
@@ -238,9 +238,9 @@ module _ (m : List ℕ) (v : T (valid m)) (l : ℕ) (h : l < lines) where
     unfolding raw_kind raws raw_connects region_gives
     raw_note_lent = note_lent raw_kind raw_connects m v l h rates f r c u ys s
 
-    pub raw_in_use : c ≡ 0x14 → (zs : List ℕ) → zs ≡ raw-promise.noted_in (raw_at l) c (put_mid (raw_at l) (raw_at l + region_size - raw_at l) m ys) → gives c u [] zs ≡ outcome rates m (connect l can_protocol f r)
-    unfolding raw_kind raws raw_connects region_gives raw-promise.noted_in
-    raw_in_use e zs z = connected_in_use raw_kind raw_connects m v l h rates f r c u ys s e zs (z ∙ ap (λ (k : ℕ). raw-promise.noted_in (raw_at l) k (put_mid (raw_at l) (raw_at l + region_size - raw_at l) m ys)) e)
+    pub raw_in_use : c ≡ 0x14 → (zs : List ℕ) → zs ≡ raw_promise.noted_in (raw_at l) c (put_mid (raw_at l) (raw_at l + region_size - raw_at l) m ys) → gives c u [] zs ≡ outcome rates m (connect l can_protocol f r)
+    unfolding raw_kind raws raw_connects region_gives raw_promise.noted_in
+    raw_in_use e zs z = connected_in_use raw_kind raw_connects m v l h rates f r c u ys s e zs (z ∙ ap (λ (k : ℕ). raw_promise.noted_in (raw_at l) k (put_mid (raw_at l) (raw_at l + region_size - raw_at l) m ys)) e)
 
   pub iso_ends : iso_at_byte l + iso_region_size ≤ length m
   unfolding iso_kind isos

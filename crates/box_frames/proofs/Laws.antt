@@ -15,7 +15,7 @@ use Rattle.machine.specs.Limits.{lines}
 use Rattle.machine.specs.Codes.{code_of}
 use Rattle.machine.specs.Message.{id_bytes}
 use Rattle.machine.specs.Channel.{Chan, closed, opened, Answer, says, frame_code, heard_by, offered, on_frame}
-use Rattle.machine.specs.Step as raw-step
+use Rattle.machine.specs.Step as raw_step
 use Rattle.machine.specs.Step.{frame, chan_step}
 use Rattle.layout.specs.Sizes.{region_size}
 use Rattle.layout.specs.Memory.{chan_back, open_part, region}
@@ -73,7 +73,7 @@ module _ (rates m : List ℕ) (v : T (valid m)) where
 
   module _ (l w n : ℕ) (b : List ℕ) where
     own_answer_law : own_answer rates (frame l w n b) ≡ says (code_of ((ltb 3 l, 0x13) ∷ (true, frame_code w n b) ∷ [])) 0 []
-    unfolding own_answer raw-step.own_answer
+    unfolding own_answer raw_step.own_answer
     own_answer_law = refl
 
     pub frame_no_line : lines ≤ l → gives 0x13 0 [] m ≡ outcome rates m (frame l w n b)

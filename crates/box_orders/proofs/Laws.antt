@@ -13,7 +13,7 @@ use borrow.Rule.Slice.PartMut.{mid_of}
 use Rattle.codec.specs.Plain.{if◌then◌else◌, within}
 use Rattle.machine.specs.Limits.{lines}
 use Rattle.machine.specs.Channel.{Chan, closed, opened, Call, raw_only, Answer, says, lent, start_filter, start_flow, on_open, on_call, noted}
-use Rattle.machine.specs.Step as raw-step
+use Rattle.machine.specs.Step as raw_step
 use Rattle.machine.specs.Step.{call, chan_step, clock_after}
 use Rattle.layout.specs.Memory.{region}
 use Rattle.layout.specs.Promise.{gives, answered, region_gives, call_outcome}
@@ -54,7 +54,7 @@ module _ (x y : Call) (raws : (rates : List ℕ) (t : ℕ) (c : Chan) → on_cal
   any_same t (iso c) = ap (λ (o : Iso × Answer). o.1) (isos rates t c)
 
   answer_same : (s : Option ℕ) → answer_by s rates d (call k x) ≡ answer_by s rates d (call k y)
-  unfolding answer_by own_answer raw-step.own_answer
+  unfolding answer_by own_answer raw_step.own_answer
   answer_same none = ap (λ (b : List ℕ). says 0x02 0 b) lends
   answer_same (some i) = any_same d.clock (any_at i d)
 
@@ -75,7 +75,7 @@ module _ (x y : Call) (raws : (rates : List ℕ) (t : ℕ) (c : Chan) → on_cal
       )
 
 pub no_third_record : (rates m : List ℕ) (k type : ℕ) (mask pattern flow : List ℕ) → flow ≡ [] → outcome rates m (call k (start_flow type mask pattern flow)) ≡ outcome rates m (call k (start_filter type mask pattern))
-unfolding outcome raw-step.lent_by lent
+unfolding outcome raw_step.lent_by lent
 no_third_record rates m k type mask pattern flow e =
     ap (λ (b : List ℕ). outcome rates m (call k (start_flow type mask pattern b))) e
     ∙ (λ i.

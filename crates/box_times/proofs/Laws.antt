@@ -15,7 +15,7 @@ use Rattle.codec.proofs.Word.{word_part}
 use Rattle.machine.specs.Limits.{lines, most_advance}
 use Rattle.machine.specs.Codes.{code_of}
 use Rattle.machine.specs.Channel.{Chan, Answer, says, on_advance}
-use Rattle.machine.specs.Step as raw-step
+use Rattle.machine.specs.Step as raw_step
 use Rattle.machine.specs.Step.{advance, clock_after, chan_step}
 use Rattle.machine.proofs.Refusals.{advance_left, clock_left}
 use Rattle.layout.specs.Sizes.{number_size, region_size}
@@ -52,7 +52,7 @@ module _ (rates m : List ℕ) (v : T (valid m)) where
 
   module _ (us : ℕ) where
     pub advance_refused : most_advance < us → gives 0x0B 0 [] m ≡ outcome rates m (advance us)
-    unfolding own_answer raw-step.own_answer code_of says
+    unfolding own_answer raw_step.own_answer code_of says
     advance_refused h =
         let over = lt-leb us most_advance h in
         unmoved m v rates (advance us) (says 0x0B 0 [])
@@ -115,7 +115,7 @@ module _ (rates m : List ℕ) (v : T (valid m)) where
             advanced_long = same_len_mid 0 number_size second ws (ap length ew ∙ sym clock_lent) ∙ valid_long second second_valid ∙ sym (valid_long m v)
 
             pub advanced : gives 0 0 [] (put_mid 0 number_size second ws) ≡ outcome rates m (advance us)
-            unfolding own_answer raw-step.own_answer code_of says clock_after
+            unfolding own_answer raw_step.own_answer code_of says clock_after
             advanced =
                 let k : ℕ = ((load m).clock + us) % 0x1_0000_0000 in
                 let after : Device = record { clock = k; chans = map (on_advance us) (load m).chans; isos = map (on_iso_advance us) (load m).isos } in

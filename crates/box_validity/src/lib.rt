@@ -6,7 +6,7 @@ ghost use Rattle.layout.specs.Sizes.{number_size};
 ghost use Rattle.layout.specs.Memory.{region};
 ghost use Rattle.iso_layout.specs.Region.{iso_region};
 ghost use Rattle.memory.specs.Sizes.{isos_at, box_size};
-ghost use Rattle.memory.specs.Memory.{valid as isValid};
+ghost use Rattle.memory.specs.Memory.{valid as is_valid};
 
 use box_places::{BOX, ISO_REGIONS};
 
@@ -44,7 +44,7 @@ fn iso_rows(mem: &[u8]) -> bool
 
 // Is this a memory of the whole box?
 pub fn valid(mem: &[u8]) -> bool
-    ensures { result ≡ isValid mem.now }
+    ensures { result ≡ is_valid mem.now }
 {
     if mem.len() != BOX {
         return false;

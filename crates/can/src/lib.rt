@@ -4,7 +4,7 @@ ghost use Rattle.codec.specs.Plain.{member};
 ghost use Rattle.machine.specs.Codes.{three_rates};
 ghost use Rattle.machine.specs.Message.{width_flag, id_limit, takes};
 ghost use Rattle.machine.specs.Channel.{is_flags, is_raw_flags};
-ghost use Rattle.machine.specs.Channel.{listens as listensBy};
+ghost use Rattle.machine.specs.Channel.{listens as listens_by};
 
 // The protocol of raw CAN.
 pub const PROTOCOL: u32 = 5;
@@ -54,7 +54,7 @@ pub fn is_raw_flags(flags: u32) -> bool
 
 // Is a connection of these flags a listener?
 pub fn listens(flags: u32) -> bool
-    ensures { result ≡ listensBy flags }
+    ensures { result ≡ listens_by flags }
 {
     flags / 0x1000_0000 % 2 == 1
 }

@@ -14,7 +14,7 @@ use Rattle.machine.specs.Codes.{code_of, three_rates}
 use Rattle.machine.specs.Limits.{last_line, most_bytes, most_advance}
 use Rattle.machine.specs.Message.{id_limit}
 use Rattle.machine.specs.Channel.{frame_code, says}
-use Rattle.machine.specs.Step as raw-step
+use Rattle.machine.specs.Step as raw_step
 use Rattle.machine.specs.Step.{Event, connect, call, frame, advance, close, clock_after}
 use Rattle.whole.specs.Device.{Device, power_on, speaker, own_answer, answer_by, answer, step, after}
 use Rattle.edition.specs.Edition.{rates_of}
@@ -39,7 +39,7 @@ plain t [] = []
 plain t (e ∷ es) = entry t e (code e) ++ plain (t + lasts e (code e)) es
 
 logged_plain : (rates : List ℕ) (t : ℕ) (d : Device) (es : List Event) → logged_in rates t d es ≡ plain t es
-unfolding logged_in plain code entry lasts step answer answer_by speaker own_answer raw-step.own_answer
+unfolding logged_in plain code entry lasts step answer answer_by speaker own_answer raw_step.own_answer
 logged_plain rates t d [] = refl
 logged_plain rates t d (connect l p f r ∷ es) = logged_plain rates (t + 0) _ es
 logged_plain rates t d (call k x ∷ es) = logged_plain rates (t + 0) _ es
@@ -57,7 +57,7 @@ record FrameGood (l w n : ℕ) (b : List ℕ) : Type 0 where
   is : code (frame l w n b) ≡ 0x00
 
 frame_view : (l w n : ℕ) (b : List ℕ) → FrameGood l w n b ⊎ (eqb (code (frame l w n b)) 0x00 ≡ false)
-unfolding code own_answer raw-step.own_answer says code_of frame_code
+unfolding code own_answer raw_step.own_answer says code_of frame_code
 frame_view l w n b = by (ltb last_line l) refl (ltb 1 w) refl (ltb (id_limit (eqb w 1)) n) refl (ltb most_bytes (length b)) refl
   where
     by : (g₁ : Bool) → ltb last_line l ≡ g₁ → (g₂ : Bool) → ltb 1 w ≡ g₂ → (g₃ : Bool) → ltb (id_limit (eqb w 1)) n ≡ g₃ → (g₄ : Bool) → ltb most_bytes (length b) ≡ g₄
@@ -70,7 +70,7 @@ frame_view l w n b = by (ltb last_line l) refl (ltb 1 w) refl (ltb (id_limit (eq
         inl (record { bus = ltb-false last_line l p; mark = ltb-false 1 w q; small = ltb-false (id_limit (eqb w 1)) n r; few = ltb-false most_bytes (length b) s; is = rw (p, q, r, s) })
 
 advance_view : (u : ℕ) → ((u ≤ most_advance) × (code (advance u) ≡ 0x00)) ⊎ (eqb (code (advance u)) 0x00 ≡ false)
-unfolding code own_answer raw-step.own_answer says code_of
+unfolding code own_answer raw_step.own_answer says code_of
 advance_view u = by (ltb most_advance u) refl
   where
     by : (g : Bool) → ltb most_advance u ≡ g → ((u ≤ most_advance) × (code (advance u) ≡ 0x00)) ⊎ (eqb (code (advance u)) 0x00 ≡ false)
@@ -209,14 +209,14 @@ importing_all t n out (g ∷ gs) a h =
 -- ---- what it wrote is read back as the same log
 
 full_on : (k t : ℕ) (es : List Event) → plain t (replicate k (advance full) ++ es) ≡ plain (t + k * full) es
-unfolding code own_answer raw-step.own_answer says code_of
+unfolding code own_answer raw_step.own_answer says code_of
 full_on zero t es = let z : t ≡ t + 0 * full = omega arith in ap (λ (n : ℕ). plain n es) z
 full_on (suc k) t es =
     let z : t + full + k * full ≡ t + suc k * full = omega arith in
     plain_advance t (replicate k (advance full) ++ es) full refl ∙ full_on k (t + full) es ∙ ap (λ (n : ℕ). plain n es) z
 
 rest_on : (r t : ℕ) (es : List Event) → r < full → plain t (rest r ++ es) ≡ plain (t + r) es
-unfolding rest code own_answer raw-step.own_answer says code_of
+unfolding rest code own_answer raw_step.own_answer says code_of
 rest_on zero t es h = let z : t ≡ t + 0 = omega arith in ap (λ (n : ℕ). plain n es) z
 rest_on (suc r) t es h = plain_advance t es (suc r) (rw (le-ltb most_advance (suc r) (omega arith)))
 
@@ -240,7 +240,7 @@ mark_small true = omega arith
 mark_small false = omega arith
 
 good_code : (g : Logged) → Good g → code (frame_of g) ≡ 0x00
-unfolding code own_answer raw-step.own_answer says code_of frame_code frame_of
+unfolding code own_answer raw_step.own_answer says code_of frame_code frame_of
 good_code g h =
     rw (le-ltb last_line g.line h.bus, le-ltb 1 (if g.wide then 1 else 0) (mark_small g.wide), mark_wide g.wide, le-ltb (id_limit g.wide) g.id h.small, le-ltb most_bytes (length g.bytes) h.few)
 
@@ -297,7 +297,7 @@ since_start : ℕ → Logged → ℕ
 since_start start g = (g.time - start) % 0x1_0000_0000
 
 advance_clock : (start t now u : ℕ) → start ≤ t → now ≡ (t - start) % 0x1_0000_0000 → clock_after now (advance u) ≡ (t + lasts (advance u) (code (advance u)) - start) % 0x1_0000_0000
-unfolding clock_after lasts code own_answer raw-step.own_answer says code_of
+unfolding clock_after lasts code own_answer raw_step.own_answer says code_of
 advance_clock start t now u h e = by (ltb most_advance u) refl
   where
     by : (g : Bool) → ltb most_advance u ≡ g → (if leb u most_advance then (now + u) % 0x1_0000_0000 else now) ≡ (t + (if eqb (if g then 0x0B else 0x00) 0x00 then u else 0) - start) % 0x1_0000_0000
@@ -305,7 +305,7 @@ advance_clock start t now u h e = by (ltb most_advance u) refl
     by false q = rw (le-leb u most_advance (ltb-false most_advance u q)) (omega arith)
 
 clocks_logged : (rates : List ℕ) (start t : ℕ) (d : Device) (es : List Event) → start ≤ t → d.clock ≡ (t - start) % 0x1_0000_0000 → clocks_in rates d es ≡ map (since_start start) (logged_in rates t d es)
-unfolding clocks_in logged_in entry lasts step after answer answer_by speaker clock_after since_start code own_answer raw-step.own_answer
+unfolding clocks_in logged_in entry lasts step after answer answer_by speaker clock_after since_start code own_answer raw_step.own_answer
 clocks_logged rates start t d [] h e = refl
 clocks_logged rates start t d (connect l p f r ∷ es) h e = let z : t + 0 ≡ t = omega arith in rw z (clocks_logged rates start t _ es h e)
 clocks_logged rates start t d (call k x ∷ es) h e = let z : t + 0 ≡ t = omega arith in rw z (clocks_logged rates start t _ es h e)

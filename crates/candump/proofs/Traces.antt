@@ -8,7 +8,7 @@ use Rattle.codec.specs.Plain.{within}
 use Rattle.machine.specs.Codes.{code_of, three_rates, two_rates}
 use Rattle.machine.specs.Message.{id_limit}
 use Rattle.machine.specs.Channel.{says, frame_code}
-use Rattle.machine.specs.Step as raw-step
+use Rattle.machine.specs.Step as raw_step
 use Rattle.whole.specs.Device.{power_on, speaker, own_answer, answer_by, answer, step}
 use Rattle.number.specs.Number as number
 use Rattle.edition.specs.Edition.{marked, rates_of, start_of}
@@ -31,7 +31,7 @@ unfolding bind within id_limit digit_in below value_of number_of line.cut line.b
 imports start l = ((imported start l).bytes, (imported start l).line, (imported start l).reason)
 
 pub exports : ℕ → List ℕ → List ℕ
-unfolding bind id_limit code_of three_rates two_rates says frame_code power_on speaker own_answer raw-step.own_answer answer_by answer step digit fixed short decimal number.front number.joined number.highest number.shortest number.taken number.number_in marked rates_of start_of events.◌>>=◌ events.done events.bad events.number events.bytes events.record_in events.at_most64 events.arguments events.arguments_of events.read_event and_then events_from events_of line.id_digits line.data_text line.frame_text line.name_text line.micro_text line.line_text log.entry log.lasts log.logged_in log.log_of log.lines_text log.exported
+unfolding bind id_limit code_of three_rates two_rates says frame_code power_on speaker own_answer raw_step.own_answer answer_by answer step digit fixed short decimal number.front number.joined number.highest number.shortest number.taken number.number_in marked rates_of start_of events.◌>>=◌ events.done events.bad events.number events.bytes events.record_in events.at_most64 events.arguments events.arguments_of events.read_event and_then events_from events_of line.id_digits line.data_text line.frame_text line.name_text line.micro_text line.line_text log.entry log.lasts log.logged_in log.log_of log.lines_text log.exported
 exports start recording = exported start recording
 
 -- 1

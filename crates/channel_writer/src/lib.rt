@@ -1,6 +1,6 @@
 // Telegrams on a channel into bytes: the fields are looked at first, so that a refusal leaves the buffer as it was.
 ghost use Rattle.std.specs.Prelude.{◌≡◌, ◌≤◌, length};
-ghost use Rattle.telegram.specs.Telegram.{data_telegram, acknowledge as acknowledgement, connection as connectionTelegram, fits, on_wire};
+ghost use Rattle.telegram.specs.Telegram.{data_telegram, acknowledge as acknowledgement, connection as connection_telegram, fits, on_wire};
 ghost use Rattle.telegram_types.specs.Face.{wrote, written_if, channel_said};
 
 use telegram_bytes::{all, both, one, refused};
@@ -40,7 +40,7 @@ fn acknowledge(ready: bool, sn: u8, buf: &mut [u8]) -> Written
 // A connection set_up or acknowledge.
 fn connection(ack: bool, block_size: u8, t1: u8, t2: u8, t3: u8, t4: u8, buf: &mut [u8]) -> Written
     requires { 8 ≤ length buf.old }
-    ensures { wrote result buf.new ≡ written_if (fits (connectionTelegram ack block_size t1 t2 t3 t4)) (on_wire (connectionTelegram ack block_size t1 t2 t3 t4)) buf.old }
+    ensures { wrote result buf.new ≡ written_if (fits (connection_telegram ack block_size t1 t2 t3 t4)) (on_wire (connection_telegram ack block_size t1 t2 t3 t4)) buf.old }
 {
     let bytes = [
         0xA0 + telegram_fields::bit_value(ack),

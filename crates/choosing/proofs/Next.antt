@@ -26,7 +26,7 @@ use Rattle.stores.specs.Written.{written, WrittenPart}
 use Rattle.stores.proofs.Periodics.{any_get, ten_held, message_at}
 use Rattle.stores.proofs.Written.{holds_ok, holds_is, holds_count}
 use Rattle.pending.proofs.Next.{waiting, next_pending, next_oldest}
-use Rattle.pending.proofs.Next.{oldest as oldestOf}
+use Rattle.pending.proofs.Next.{oldest as oldest_of}
 use Rattle.pending.proofs.Any.{any_pending, any_pending_law, none_pending}
 use Rattle.choosing.specs.Choice.{next_shown, choice_shown, Choosing}
 
@@ -110,7 +110,7 @@ module _ {p t w : List ℕ} {i : ℕ} {there : Bool} (q : Choosing p t w i there
       (oldest_out (out_lawful flags) most_written record_size (out_size_law flags) ws (holds_is q.store) (holds_ok q.store) 1 (omega (arith, q.something h e, holds_count q.store))
       ∙ ap (λ (x : List Rec). put_all (out_cell flags) (take 1 x)) s.are ∙ append-nil (rec36.put s.oldest)
       ∙ sym (shown_is s.oldest)
-      ∙ sym (ap next_shown (next_oldest ps (ten_held p q.part) i q.first ws h ∙ ap (oldestOf ps) s.are)) ∙ sym (of_others ps t ws e))
+      ∙ sym (ap next_shown (next_oldest ps (ten_held p q.part) i q.first ws h ∙ ap (oldest_of ps) s.are)) ∙ sym (of_others ps t ws e))
 
   pub oldest_long : length (take record_size (drop 1 w)) ≡ record_size
   oldest_long = length-take-le record_size (drop 1 w) (omega (arith, length-drop 1 w, q.store.long))

@@ -1,6 +1,6 @@
 // The question what a raw channel does with every frame of a width and an identifier, on the channel's region.
 ghost use Rattle.std.specs.Prelude.{◌≡◌, List, [], ℕ};
-ghost use Rattle.machine.specs.Channel.{decide as decideCall};
+ghost use Rattle.machine.specs.Channel.{decide as decide_call};
 ghost use Rattle.layout.specs.Promise.{gives, Opened, call_outcome};
 ghost use Rattle.decision.specs.Number.{number_of};
 
@@ -10,7 +10,7 @@ use places::{FILTERS, FLAGS, MAPS};
 // Decides: a bus frame's tests of its width mark and identifier; a width that the connection doesn't take is dropped; else the filters' answer.
 pub fn decide(r: &[u8], wide: u32, id: u32) -> Decided
     requires { Opened r.now }
-    ensures { (rates : List ℕ) (t : ℕ) → gives result.code (number_of result.decision) [] r.now ≡ call_outcome rates t r.now (decideCall wide id) }
+    ensures { (rates : List ℕ) (t : ℕ) → gives result.code (number_of result.decision) [] r.now ≡ call_outcome rates t r.now (decide_call wide id) }
 {
     let code = frame_tests::frame_code(wide, id, &r[0..0]);
     if code != codes::STATUS_NOERROR {

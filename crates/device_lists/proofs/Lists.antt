@@ -13,7 +13,7 @@ use Rattle.machine.specs.Channel.{Pairs, flat, get_parameter, set_parameter, get
 use Rattle.machine.specs.Step.{call}
 use Rattle.layout.specs.Promise.{Result, gives}
 use Rattle.memory.specs.Promise.{outcome}
-use Rattle.memory.proofs.Lists.{Ready, set_ends as set-none-left, set_goes, set_stops, get_ends as get-none-left, get_goes, get_stops, no_value}
+use Rattle.memory.proofs.Lists.{Ready, set_ends as set_none_left, set_goes, set_stops, get_ends as get_none_left, get_goes, get_stops, no_value}
 use Rattle.device_lists.specs.declared.Pair.{Pair}
 use Rattle.device_lists.specs.Lists.{told, listed, valued, blank}
 use Rattle.device_lists.proofs.Refused.{known}
@@ -55,7 +55,7 @@ set_from k ps i m = outcome two_rates m (call k (set_list (listed (drop i ps))))
 
 module _ (k : ℕ) (ps : List Pair) (m : List ℕ) (r : Ready m k) where
   pub set_done : gives 0 0 [] m ≡ set_from k ps (length ps) m
-  set_done = set-none-left two_rates known m k r ∙ ap (λ (l : List Pair). outcome two_rates m (call k (set_list (listed l)))) (sym (none_behind ps))
+  set_done = set_none_left two_rates known m k r ∙ ap (λ (l : List Pair). outcome two_rates m (call k (set_list (listed l)))) (sym (none_behind ps))
 
   module _ (few : length ps ≤ most_pairs) (i : ℕ) (h : i < length ps) (c : ℕ) (m' : List ℕ)
       (e : gives c 0 [] m' ≡ outcome two_rates m (call k (set_parameter (get_or ps i blank).parameter (get_or ps i blank).value))) where
@@ -109,7 +109,7 @@ module _ (k : ℕ) (m : List ℕ) (r : Ready m k) where
 
   pub get_done : (l : List Pair) → gives 0 0 (flat (listed l)) m ≡ get_from k m (length l) l
   unfolding flat
-  get_done [] = ap (behind []) (get-none-left two_rates known m k r)
+  get_done [] = ap (behind []) (get_none_left two_rates known m k r)
   get_done (p ∷ l) = ap (after p) (get_done l)
 
   pub get_begins : (l : List Pair) → length l ≤ most_pairs → get_from k m 0 l ≡ outcome two_rates m (call k (get_list (listed l)))

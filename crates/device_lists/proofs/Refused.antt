@@ -11,7 +11,7 @@ use Rattle.machine.specs.Limits.{most_pairs}
 use Rattle.machine.specs.Channel.{Pairs, flat, lent, get_list, set_list}
 use Rattle.machine.specs.Step.{lent_by, call}
 use Rattle.layout.specs.Sizes.{region_size}
-use Rattle.layout.specs.Promise as raw-promise
+use Rattle.layout.specs.Promise as raw_promise
 use Rattle.layout.specs.Promise.{gives}
 use Rattle.layout.proofs.Calls.{Known, two_known}
 use Rattle.iso_layout.specs.Sizes.{iso_region_size, iso_last_at}
@@ -73,7 +73,7 @@ module _ (m : List ℕ) (k n : ℕ) where
     pub raw_notable : (base ≡ 0 → ⊥) → base < isos_at → (base + region_size ≤ length m) × (0x04 < 256)
     raw_notable b low = (raw_ends m v k base (p.raw b low), lit< tt)
 
-    pub raw_too_many : (base ≡ 0 → ⊥) → base < isos_at → most_pairs < n → {m' : List ℕ} → m' ≡ raw-promise.noted_in base 0x04 m → Begun m k n 0x04 m'
+    pub raw_too_many : (base ≡ 0 → ⊥) → base < isos_at → most_pairs < n → {m' : List ℕ} → m' ≡ raw_promise.noted_in base 0x04 m → Begun m k n 0x04 m'
     raw_too_many b low h {m'} noted = over (λ ps l. raw_over m v k base two_rates ps l m' (p.raw b low) noted) h
 
     pub iso_notable : isos_at ≤ base → (base + iso_region_size ≤ length m) × (0x04 < 256)

@@ -9,11 +9,11 @@ use lib.Dec.{eqb, ltb}
 use lib.ListN.{length, take, drop, length-append, take-append-drop}
 use Rattle.codec.specs.Plain.{if◌then◌else◌}
 use Rattle.recording_sizes.specs.Sizes.{longest}
-use Rattle.machine.specs.Codes.{code_of as firstCode}
+use Rattle.machine.specs.Codes.{code_of as first_code}
 use Rattle.machine.specs.Limits.{last_line, most_bytes, most_advance}
 use Rattle.machine.specs.Message.{id_limit}
 use Rattle.machine.specs.Channel.{Call, says, frame_code}
-use Rattle.machine.specs.Step as raw-step
+use Rattle.machine.specs.Step as raw_step
 use Rattle.machine.specs.Step.{Event, connect, call, frame, advance, close}
 use Rattle.whole.specs.Device.{own_answer}
 use Rattle.events.specs.Found.{giving_of}
@@ -65,18 +65,18 @@ module _ (t : ℕ) (b : List ℕ) (place : ℕ) where
 
 module _ (t u : ℕ) where
   pub too_long : most_advance < u → t ≡ t + lasts (advance u) (code_of (advance u))
-  unfolding lasts code_of own_answer raw-step.own_answer says firstCode
+  unfolding lasts code_of own_answer raw_step.own_answer says first_code
   too_long h = rw (lt-ltb most_advance u h) (omega arith)
 
   pub accepted : u ≤ most_advance → t + u ≡ t + lasts (advance u) (code_of (advance u))
-  unfolding lasts code_of own_answer raw-step.own_answer says firstCode
+  unfolding lasts code_of own_answer raw_step.own_answer says first_code
   accepted h = rw (le-ltb most_advance u h)
 
 -- ---- the line of a frame
 
 module _ (t l w n : ℕ) (d : List ℕ) where
-  code_is : code_of (frame l w n d) ≡ firstCode ((ltb last_line l, 0x13) ∷ (true, frame_code w n d) ∷ [])
-  unfolding code_of own_answer raw-step.own_answer says
+  code_is : code_of (frame l w n d) ≡ first_code ((ltb last_line l, 0x13) ∷ (true, frame_code w n d) ∷ [])
+  unfolding code_of own_answer raw_step.own_answer says
   code_is = refl
 
   none_by : (code : ℕ) → code_of (frame l w n d) ≡ code → eqb code 0x00 ≡ false → line_of t (frame l w n d) ≡ []
@@ -84,15 +84,15 @@ module _ (t l w n : ℕ) (d : List ℕ) where
   none_by code e q = ap (λ (g : Bool). lines_text (if◌then◌else◌ {A = List Logged} g (record { time = t; line = l; wide = eqb w 1; id = n; bytes = d } ∷ []) [])) (ap (λ (c : ℕ). eqb c 0x00) e ∙ q)
 
   pub no_line : last_line < l → line_of t (frame l w n d) ≡ []
-  unfolding firstCode
+  unfolding first_code
   no_line h = none_by 0x13 (code_is ∙ rw (lt-ltb last_line l h)) refl
 
   module _ (line : l ≤ last_line) where
     own_code : code_of (frame l w n d) ≡ frame_code w n d
-    unfolding firstCode
+    unfolding first_code
     own_code = code_is ∙ rw (le-ltb last_line l line) (by (frame_code w n d))
       where
-        by : (c : ℕ) → firstCode ((true, c) ∷ []) ≡ c
+        by : (c : ℕ) → first_code ((true, c) ∷ []) ≡ c
         by c = refl
 
     pub refused : (frame_code w n d ≡ 0 → ⊥) → line_of t (frame l w n d) ≡ []
@@ -105,10 +105,10 @@ module _ (t l w n : ℕ) (d : List ℕ) where
 
       -- at most eight bytes
       few : length d ≤ most_bytes
-      unfolding frame_code firstCode
+      unfolding frame_code first_code
       few = by (ltb 1 w) (ltb (id_limit (eqb w 1)) n) (ltb most_bytes (length d)) refl good
         where
-          by : (a b c : Bool) → ltb most_bytes (length d) ≡ c → firstCode ((a, 0x0A) ∷ (b, 0x0A) ∷ (c, 0x0A) ∷ []) ≡ 0 → length d ≤ most_bytes
+          by : (a b c : Bool) → ltb most_bytes (length d) ≡ c → first_code ((a, 0x0A) ∷ (b, 0x0A) ∷ (c, 0x0A) ∷ []) ≡ 0 → length d ≤ most_bytes
           by true b c q e = let z : ◌≡◌ {A = ℕ} 0 1 = cc in absurd (omega arith)
           by false true c q e = let z : ◌≡◌ {A = ℕ} 0 1 = cc in absurd (omega arith)
           by false false true q e = let z : ◌≡◌ {A = ℕ} 0 1 = cc in absurd (omega arith)

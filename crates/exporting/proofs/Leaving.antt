@@ -10,7 +10,7 @@ use lib.Dec.{leb, ltb}
 use lib.ListN.{length}
 use Rattle.codec.specs.Plain.{if◌then◌else◌}
 use Rattle.recording_sizes.specs.Sizes.{longest}
-use Rattle.machine.specs.Step as raw-step
+use Rattle.machine.specs.Step as raw_step
 use Rattle.machine.specs.Step.{Event, connect, call, frame, advance, close}
 use Rattle.whole.specs.Device.{Device, power_on, speaker, own_answer, answer_by, answer, step}
 use Rattle.edition.specs.Edition.{rates_of, start_of, mark_at}
@@ -37,7 +37,7 @@ plain t (e ∷ es) = line_of t e ++ plain (t + lasts e (code_of e)) es
 
 -- no device plays a part
 logged_plain : (rates : List ℕ) (t : ℕ) (d : Device) (es : List Event) → lines_text (logged_in rates t d es) ≡ plain t es
-unfolding logged_in plain code_of line_of entry lasts lines_text step answer answer_by speaker own_answer raw-step.own_answer
+unfolding logged_in plain code_of line_of entry lasts lines_text step answer answer_by speaker own_answer raw_step.own_answer
 logged_plain rates t d [] = refl
 logged_plain rates t d (connect l p f r ∷ es) = logged_plain rates (t + 0) _ es
 logged_plain rates t d (call k x ∷ es) = logged_plain rates (t + 0) _ es

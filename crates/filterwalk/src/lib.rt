@@ -1,7 +1,7 @@
 // The walk of ten filters over a frame: block filters first, pass filters only where no block filter matches, each up to the first that matches.
 ghost use Rattle.std.specs.Prelude.{◌≡◌, false, ◌||◌, ◌≤◌, eqb, length, take};
 ghost use Rattle.machine.specs.Limits.{most_places};
-ghost use Rattle.machine.specs.Filter.{hits as someHits};
+ghost use Rattle.machine.specs.Filter.{hits as some_hits};
 ghost use Rattle.layout.specs.Sizes.{masks_in};
 ghost use Rattle.filterwalk.specs.Columns.{Heads, EmptyFrom, none_of, filters_in, passes_with};
 
@@ -53,7 +53,7 @@ pub fn hits(
     end: usize,
 ) -> bool
     requires { Heads heads.now × (1 ≤ kind) × (kind ≤ 2) × (len ≤ length frame.now) × (end ≤ most_places) × EmptyFrom heads.now end }
-    ensures { result ≡ someHits (eqb kind 2) (filters_in heads.now masks.now patterns.now) wide (take len frame.now) }
+    ensures { result ≡ some_hits (eqb kind 2) (filters_in heads.now masks.now patterns.now) wide (take len frame.now) }
 {
     let mut next = 0;
     'filters: while next < end {
@@ -91,7 +91,7 @@ fn wanted(
     passed: bool,
 ) -> bool
     requires { Heads heads.now × (len ≤ length frame.now) × (end ≤ most_places) × EmptyFrom heads.now end }
-    ensures { result ≡ (passed || someHits false (filters_in heads.now masks.now patterns.now) wide (take len frame.now)) }
+    ensures { result ≡ (passed || some_hits false (filters_in heads.now masks.now patterns.now) wide (take len frame.now)) }
 {
     if passed {
         return true;

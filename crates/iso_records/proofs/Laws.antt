@@ -8,7 +8,7 @@ use Rattle.machine.specs.Limits.{data_in}
 use Rattle.machine.specs.Message.{bit, id_bytes, Rec, size_of, clean}
 use Rattle.iso.specs.Limits.{iso_protocol, iso_data, iso_record_size, least_message}
 use Rattle.iso.specs.Iso.{extra_of, shown_iso, iso_message_code}
-use Rattle.iso.specs.Iso.{padded as paddedIso}
+use Rattle.iso.specs.Iso.{padded as padded_iso}
 use Rattle.iso_layout.specs.Record.{indication, extra_is, rec536}
 use Rattle.iso_layout.proofs.Lawful.{shown_iso_is}
 use Rattle.records.specs.Cell.{numbers, padded}
@@ -20,7 +20,7 @@ use Rattle.iso_records.specs.Told.{told}
 -- ---- a record's bytes
 
 pub record_is : (r : Rec) → numbers iso_protocol r.rx r.tx r.time (length r.bytes) (extra_is r.rx (length r.bytes)) ++ padded iso_data r.bytes ≡ rec536.put r
-unfolding numbers padded paddedIso shown_iso extra_of extra_is indication
+unfolding numbers padded padded_iso shown_iso extra_of extra_is indication
 record_is r = shown_iso_is r
 
 pub told_put : (cell ys zs : List ℕ) (rx tx time size extra id : ℕ) (b : List ℕ) → length cell ≡ iso_record_size → size ≡ 4 + length b → extra ≡ extra_is rx size → ys ≡ numbers iso_protocol rx tx time size extra

@@ -3,7 +3,7 @@ ghost use Rattle.std.specs.Prelude.{◌≡◌, ◌+◌, ◌*◌, length};
 ghost use Rattle.codec.specs.Code.{up_to};
 ghost use Rattle.iso.specs.Limits.{iso_record_size};
 ghost use Rattle.iso_layout.specs.Record.{rec536, iso_outgoing, iso_incoming, frame_cell, extra_is};
-ghost use Rattle.iso_layout.specs.Record.{indication as isIndication};
+ghost use Rattle.iso_layout.specs.Record.{indication as is_indication};
 ghost use Rattle.iso_stored.specs.Held.{IsRecord, held};
 
 use integers::word_at;
@@ -23,7 +23,7 @@ const MOST_FRAME: u32 = places::ROW as u32;
 
 // RxStart and TxDone are indications.
 fn indication(rx: u32) -> bool
-    ensures { result ≡ isIndication rx }
+    ensures { result ≡ is_indication rx }
 {
     (rx / 0x02 % 2 == 1) | (rx / 0x08 % 2 == 1)
 }

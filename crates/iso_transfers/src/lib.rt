@@ -2,7 +2,7 @@
 ghost use Rattle.std.specs.Prelude.{◌≡◌, List, ℕ, ◌≤◌, length, drop};
 ghost use Rattle.iso_layout.specs.Sizes.{payload_size, transfer_in, talk_size};
 ghost use Rattle.iso_layout.specs.Region.{transfer_fits, transfer_code, payload508, step_of7, is_gap};
-ghost use Rattle.iso_layout.specs.Region.{still as isStill, paced as isPaced};
+ghost use Rattle.iso_layout.specs.Region.{still as is_still, paced as is_paced};
 ghost use Rattle.talk_head.specs.Headed.{head_parts};
 
 use integers::word_at;
@@ -42,14 +42,14 @@ fn is_gap(n: u32) -> bool
 
 // No time, no block, no go-on?
 fn still(h: Head) -> bool
-    ensures { result ≡ isStill h.time h.left h.gap h.waits }
+    ensures { result ≡ is_still h.time h.left h.gap h.waits }
 {
     (h.time == 0) & (h.left == 0) & (h.gap == 0) & !h.waits
 }
 
 // A block and a gap, and no go-on?
 fn paced(h: Head) -> bool
-    ensures { result ≡ isPaced h.left h.gap h.waits }
+    ensures { result ≡ is_paced h.left h.gap h.waits }
 {
     (h.left < 256) & is_gap(h.gap) & !h.waits
 }

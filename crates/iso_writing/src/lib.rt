@@ -3,14 +3,14 @@ ghost use Rattle.std.specs.Prelude.{◌≡◌, List, [], ℕ, ◌*◌, ◌≤◌
 ghost use Rattle.codec.specs.Word.{word_at};
 ghost use Rattle.machine.specs.Filter.{any_slot};
 ghost use Rattle.machine.specs.Message.{size_of};
-ghost use Rattle.machine.specs.Channel.{write as writeOf};
+ghost use Rattle.machine.specs.Channel.{write as write_of};
 ghost use Rattle.layout.specs.Promise.{gives};
 ghost use Rattle.iso.specs.Limits.{iso_record_size, least_message};
 ghost use Rattle.iso.specs.Iso.{carries, iso_write_code, iso_writing};
 ghost use Rattle.iso_layout.specs.Sizes.{flow_in, talk_size};
 ghost use Rattle.iso_layout.specs.Promise.{IsoOpened, iso_outcome};
 ghost use Rattle.writing.specs.Store.{Queued, Stopped};
-ghost use Rattle.iso_writing.specs.Written.{messages, MessagesPart, talks_by, unmatched as unmatchedIn};
+ghost use Rattle.iso_writing.specs.Written.{messages, MessagesPart, talks_by, unmatched as unmatched_in};
 
 use codes::Answer;
 use iso_places::{FLIGHT, FLOW_IN, MESSAGES, RECORD, TALK_SIZE, TALKS_AT};
@@ -53,7 +53,7 @@ fn has_filter(one: Flow, two: Flow, wide: bool, id: u32) -> bool
 // Is a message whose size is good segmented, with no conversation to send it?
 fn unmatched(m: &[u8], one: Flow, two: Flow) -> bool
     requires { (iso_record_size ≤ length m.now) × (least_message ≤ size_of m.now) }
-    ensures { result ≡ unmatchedIn (talks_by one two) m.now }
+    ensures { result ≡ unmatched_in (talks_by one two) m.now }
 {
     let known = has_filter(
         one,
@@ -110,7 +110,7 @@ fn queue_all(store: &mut [u8], flags: u32, one: Flow, two: Flow, n: u32, buffer:
 // Write: the first n records of the buffer, in order, until one is refused or 4 are held.
 pub fn write(r: &mut [u8], n: u32, buffer: &[u8]) -> Answer
     requires { IsoOpened r.old }
-    ensures { (rates : List ℕ) (t : ℕ) → gives result.code result.value [] r.new ≡ iso_outcome rates t r.old (writeOf n buffer.now) }
+    ensures { (rates : List ℕ) (t : ℕ) → gives result.code result.value [] r.new ≡ iso_outcome rates t r.old (write_of n buffer.now) }
 {
     if buffer.len() < RECORD * n as usize {
         return Answer {

@@ -2,7 +2,7 @@
 ghost use Rattle.std.specs.Prelude.{◌≡◌, [], ◌∷◌, ◌<◌, T, length, get_or};
 ghost use Rattle.link.specs.Connection.{asked_fits, waits, opening};
 ghost use Rattle.link_layout.specs.Sizes.{asked_size};
-ghost use Rattle.link_layout.specs.Connection.{asked as askedCode, connection_part};
+ghost use Rattle.link_layout.specs.Connection.{asked as asked_code, connection_part};
 ghost use Rattle.link_layout.specs.Turned.{LinkPart};
 ghost use Rattle.link_asking.specs.Asking.{asked_of};
 
@@ -49,7 +49,7 @@ pub fn asked_fits(
 // Are these the bytes of what an open asked for?
 pub fn asked(s: &[u8]) -> bool
     requires { length s.now ≡ asked_size }
-    ensures { result ≡ askedCode.valid s.now }
+    ensures { result ≡ asked_code.valid s.now }
 {
     asked_fits(
         word_at(s, 0),
@@ -86,7 +86,7 @@ fn put_asked(
     t3: u32,
 )
     requires { (length s.old ≡ asked_size) × (destination < 256) × (application < 256) × (size < 256) × (t1 < 256) × (t3 < 256) }
-    ensures { s.new ≡ askedCode.put (asked_of own destination rx application size t1 t3) }
+    ensures { s.new ≡ asked_code.put (asked_of own destination rx application size t1 t3) }
 {
     put_word(&mut s[0..RX_ID_IN], own);
     put_word(&mut s[RX_ID_IN..DESTINATION_IN], rx);

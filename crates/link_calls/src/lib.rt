@@ -1,6 +1,6 @@
 // The calls on a connection: whether a message is under way, one to send, how long the complete one is, and the complete one fetched.
 ghost use Rattle.std.specs.Prelude.{◌≡◌, false, ◌++◌, ◌≤◌, ◌<◌, T, length, get_or, drop};
-ghost use Rattle.link.specs.Connection.{longest, new_block, idle, sends, busy as busyOf, whole, begin as begun, fetched};
+ghost use Rattle.link.specs.Connection.{longest, new_block, idle, sends, busy as busy_of, whole, begin as begun, fetched};
 ghost use Rattle.link_layout.specs.Sizes.{out_size, hear_size};
 ghost use Rattle.link_layout.specs.Connection.{out, hear, connection_part};
 ghost use Rattle.link_layout.specs.Turned.{LinkPart};
@@ -26,7 +26,7 @@ const FIRST: usize = RECEIVED + places::NUMBER;
 // Is a message under way?
 pub fn busy(part: &[u8]) -> bool
     requires { LinkPart part.now }
-    ensures { result ≡ busyOf (connection_part.get part.now) }
+    ensures { result ≡ busy_of (connection_part.get part.now) }
 {
     (part[0] == STANDING) & (part[OUT_AT] != 0)
 }
@@ -42,7 +42,7 @@ fn start(s: &mut [u8], message: &[u8])
 
 // A message to send, on a connection that stands and has none under way.
 pub fn begin(part: &mut [u8], message: &[u8])
-    requires { LinkPart part.old × (get_or part.old 0 0 ≡ 3) × (busyOf (connection_part.get part.old) ≡ false) × (length message.now ≤ longest) }
+    requires { LinkPart part.old × (get_or part.old 0 0 ≡ 3) × (busy_of (connection_part.get part.old) ≡ false) × (length message.now ≤ longest) }
     ensures { part.new ≡ connection_part.put (begun message.now (connection_part.get part.old)) }
 {
     start(&mut part[OUT_AT..HEAR_AT], message);

@@ -3,7 +3,7 @@ ghost use Rattle.std.specs.Prelude.{◌≡◌, length};
 ghost use Rattle.codec.specs.Code.{text};
 ghost use Rattle.link.specs.Connection.{longest};
 ghost use Rattle.link_layout.specs.Sizes.{which_size, trials_size, care_size, text_size, out_size, hear_size};
-ghost use Rattle.link_layout.specs.Connection.{trials as trialsCode, leaves as leavesCode, wire as wireCode, care as careCode, out as outCode, hear as hearCode};
+ghost use Rattle.link_layout.specs.Connection.{trials as trials_code, leaves as leaves_code, wire as wire_code, care as care_code, out as out_code, hear as hear_code};
 ghost use Rattle.link_checks.specs.Tagged.{by_tag};
 
 use integers::word_at;
@@ -39,7 +39,7 @@ fn by_tag(k: u8, a: bool, b: bool, c: bool) -> bool
 // An opening telegram: its repeats, and whether it waits, flies or T_E runs.
 pub fn trials(s: &[u8]) -> bool
     requires { length s.now ≡ trials_size }
-    ensures { result ≡ trialsCode.valid s.now }
+    ensures { result ≡ trials_code.valid s.now }
 {
     let us = word_at(s, TRIAL_IN + 1);
     (s[0] <= MNTC) & by_tag(s[TRIAL_IN], us == 0, us == 0, (1 <= us) & (us <= T_E))
@@ -48,7 +48,7 @@ pub fn trials(s: &[u8]) -> bool
 // A disconnect telegram: what is left of T3, T3's byte, or nothing.
 pub fn leaves(s: &[u8]) -> bool
     requires { length s.now ≡ which_size }
-    ensures { result ≡ leavesCode.valid s.now }
+    ensures { result ≡ leaves_code.valid s.now }
 {
     let us = word_at(s, 1);
     by_tag(s[0], us <= LONGEST_TIME, us <= BYTE, us == 0)
@@ -57,7 +57,7 @@ pub fn leaves(s: &[u8]) -> bool
 // The line: what is left of T3, or a telegram in flight.
 pub fn wire(s: &[u8]) -> bool
     requires { length s.now ≡ which_size }
-    ensures { result ≡ wireCode.valid s.now }
+    ensures { result ≡ wire_code.valid s.now }
 {
     (s[0] == 0) | ((s[0] <= 3) & (word_at(s, 1) == 0))
 }
@@ -65,7 +65,7 @@ pub fn wire(s: &[u8]) -> bool
 // The connection test: two marks and two numbers.
 pub fn care(s: &[u8]) -> bool
     requires { length s.now ≡ care_size }
-    ensures { result ≡ careCode.valid s.now }
+    ensures { result ≡ care_code.valid s.now }
 {
     (s[0] <= 1) & (s[TESTS_IN] <= 1)
 }
@@ -86,7 +86,7 @@ pub fn store(s: &[u8]) -> bool
 // What is sent: no message and zeros, its telegrams are sent, or T1 runs.
 pub fn out(s: &[u8]) -> bool
     requires { length s.now ≡ out_size }
-    ensures { result ≡ outCode.valid s.now }
+    ensures { result ≡ out_code.valid s.now }
 {
     if !store(&s[MESSAGE..OUT_SIZE]) {
         return false;
@@ -102,7 +102,7 @@ pub fn out(s: &[u8]) -> bool
 // What is received: the acknowledge that waits, the complete mark, the bytes.
 pub fn hear(s: &[u8]) -> bool
     requires { length s.now ≡ hear_size }
-    ensures { result ≡ hearCode.valid s.now }
+    ensures { result ≡ hear_code.valid s.now }
 {
     (s[ACK_IN] <= 2) & ((s[COMPLETE_IN] <= 1) & store(&s[BYTES_IN..HEAR_SIZE]))
 }

@@ -1,11 +1,11 @@
 // What is measured in a TP2.0 connection: the microseconds of a time byte, the telegrams of a message and of a block.
 ghost use Rattle.std.specs.Prelude.{◌≡◌, List, ℕ, ◌≤◌, length};
-ghost use Rattle.link.specs.Connection.{longest, micros as microsOf, telegrams as telegramsOf, block_of};
+ghost use Rattle.link.specs.Connection.{longest, micros as micros_of, telegrams as telegrams_of, block_of};
 
 // The microseconds of a time byte, 6.3 s at most: the unit by its high two bits, times the count. (The table of times is built on the stack where it is
 // looked into, and this is asked at every look at a memory.)
 pub fn micros(b: u8) -> u32
-    ensures { (result ≡ microsOf b) × (result ≤ 6300000) }
+    ensures { (result ≡ micros_of b) × (result ≤ 6300000) }
 {
     let count = (b % 64) as u32;
     if b < 64 {
@@ -23,7 +23,7 @@ pub fn micros(b: u8) -> u32
 // The telegrams of a message of which so many bytes are left: 1 at least, 74 at most.
 pub fn telegrams(n: u32) -> u32
     requires { n ≤ longest }
-    ensures { ((rest : List ℕ) → length rest ≡ n → result ≡ telegramsOf rest) × (1 ≤ result) × (result ≤ 74) }
+    ensures { ((rest : List ℕ) → length rest ≡ n → result ≡ telegrams_of rest) × (1 ≤ result) × (result ≤ 74) }
 {
     if n == 0 {
         return 1;

@@ -3,7 +3,7 @@ ghost use Rattle.std.specs.Prelude.{◌≡◌, T, length};
 ghost use Rattle.link.specs.Connection.{Asked};
 ghost use Rattle.link_layout.specs.Sizes.{out_size, standing_size};
 ghost use Rattle.link_layout.specs.Connection.{t1_fits, out_in, link_fits, link};
-ghost use Rattle.link_layout.specs.Connection.{out as outCode};
+ghost use Rattle.link_layout.specs.Connection.{out as out_code};
 
 use integers::{wide, word_at};
 use link_checks::{care, hear, out, wire};
@@ -62,8 +62,8 @@ fn t1_fits(t1: u8, us: u32) -> bool
 
 // Does a message under way fit T1, the block size and what is in flight?
 fn out_in(s: &[u8], t1: u8, size: u8, flying: bool) -> bool
-    requires { (length s.now ≡ out_size) × T (outCode.valid s.now) }
-    ensures { result ≡ out_in t1 size flying (outCode.get s.now) }
+    requires { (length s.now ≡ out_size) × T (out_code.valid s.now) }
+    ensures { result ≡ out_in t1 size flying (out_code.get s.now) }
 {
     let k = s[0];
     if k == 0 {

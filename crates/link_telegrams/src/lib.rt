@@ -4,7 +4,7 @@ ghost use Rattle.telegram.specs.Telegram.{set_up, opening_fits, opening_bytes, f
 ghost use Rattle.telegram_types.specs.Face.{channel_said};
 ghost use Rattle.link.specs.Connection.{longest, ours, set_up_of, Block, sends, next_data};
 ghost use Rattle.link_layout.specs.Connection.{asked, out};
-ghost use Rattle.link_telegrams.specs.Given.{given as givenAs, nothing_given, AskedPart, Sending};
+ghost use Rattle.link_telegrams.specs.Given.{given as given_as, nothing_given, AskedPart, Sending};
 
 use link_places::{
     APPLICATION_IN, BLOCK_IN, BLOCK_SIZE_IN, DESTINATION_IN, REST_IN, RX_ID_IN, T1_IN, T3_IN,
@@ -45,7 +45,7 @@ pub fn nothing() -> Given
 // A telegram on a channel, with the bytes that it carries.
 pub fn on_channel(id: u32, t: OnChannel, carried: &[u8]) -> Given
     requires { fits (channel_said t carried.now) ≡ true }
-    ensures { result ≡ givenAs id (on_wire (channel_said t carried.now)) }
+    ensures { result ≡ given_as id (on_wire (channel_said t carried.now)) }
 {
     let mut bytes = [0u8; FRAME];
     let w = channel_writer::channel(t, carried, &mut bytes);
@@ -60,7 +60,7 @@ pub fn on_channel(id: u32, t: OnChannel, carried: &[u8]) -> Given
 // A channel set_up.
 fn set_up(id: u32, destination: u8, rx_id: u16, application: u8) -> Given
     requires { opening_fits id (set_up destination rx_id application) ≡ true }
-    ensures { result ≡ givenAs id (opening_bytes (set_up destination rx_id application)) }
+    ensures { result ≡ given_as id (opening_bytes (set_up destination rx_id application)) }
 {
     let o = Opening::SetUp {
         destination,
@@ -80,7 +80,7 @@ fn set_up(id: u32, destination: u8, rx_id: u16, application: u8) -> Given
 // The channel set_up of what was asked for.
 pub fn opening(s: &[u8]) -> Given
     requires { AskedPart s.now }
-    ensures { result ≡ givenAs (asked.get s.now).own (opening_bytes (set_up_of (asked.get s.now))) }
+    ensures { result ≡ given_as (asked.get s.now).own (opening_bytes (set_up_of (asked.get s.now))) }
 {
     let id = integers::word_at(s, 0);
     let rx_id = integers::word_at(s, RX_ID_IN) as u16;
@@ -101,7 +101,7 @@ fn end_of(from: u32, n: u32) -> u32
 // The next data telegram of a message.
 pub fn data(s: &[u8], id: u32, size: u32, sn: u8) -> Given
     requires { Sending size s.now }
-    ensures { (b : Block) → out.get s.now ≡ sends b → result ≡ givenAs id (on_wire (next_data size sn b)) }
+    ensures { (b : Block) → out.get s.now ≡ sends b → result ≡ given_as id (on_wire (next_data size sn b)) }
 {
     let n = integers::word_at(s, BLOCK_IN + REST_IN);
     let taken = integers::wide(s[BLOCK_IN]);
@@ -119,7 +119,7 @@ pub fn data(s: &[u8], id: u32, size: u32, sn: u8) -> Given
 // Our connection set_up or acknowledge by what was asked for.
 pub fn connection(s: &[u8], id: u32, ack: bool) -> Given
     requires { AskedPart s.now }
-    ensures { result ≡ givenAs id (on_wire (ours ack (asked.get s.now))) }
+    ensures { result ≡ given_as id (on_wire (ours ack (asked.get s.now))) }
 {
     let t = own_telegrams::connection(ack, s[BLOCK_SIZE_IN], s[T1_IN], s[T3_IN]);
     on_channel(id, t, &s[0..0])

@@ -1,7 +1,7 @@
 // A telegram reaches a TP2.0 connection that stands, on its bytes.
 ghost use Rattle.std.specs.Prelude.{◌≡◌, ◌≤◌, T, length, get_or};
 ghost use Rattle.std.proofs.Math.Option.{some};
-ghost use Rattle.telegram.specs.Telegram.{data_telegram, acknowledge as acknowledgeOf};
+ghost use Rattle.telegram.specs.Telegram.{data_telegram, acknowledge as acknowledge_of};
 ghost use Rattle.telegram_types.specs.Face.{channel_said};
 ghost use Rattle.link.specs.Connection.{longest};
 ghost use Rattle.link_layout.specs.Sizes.{care_size};
@@ -48,7 +48,7 @@ fn data(part: &mut [u8], asks: bool, last: bool, sn: u8, bytes: &[u8])
 // An acknowledge: where telegrams are asked for once too often, the connection comes to its end.
 fn acknowledge(part: &mut [u8], ready: bool, sn: u8)
     requires { LinkPart part.old × (get_or part.old 0 0 ≡ 3) }
-    ensures { part.new ≡ connection_part.put (heeds (some (acknowledgeOf ready sn)) (connection_part.get part.old)) }
+    ensures { part.new ≡ connection_part.put (heeds (some (acknowledge_of ready sn)) (connection_part.get part.old)) }
 {
     let goes_on = link_acknowledging::acknowledge(&mut part[TALK_AT..HEAR_AT], ready, sn);
     if goes_on {

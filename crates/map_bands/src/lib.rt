@@ -4,7 +4,7 @@ ghost use Rattle.codec.specs.Code.{mark_of};
 ghost use Rattle.derived.specs.Derived.{same_bytes};
 ghost use Rattle.map_rule.specs.Map.{map_size};
 ghost use Rattle.map_bands.specs.Bands.{band_size, band_byte, band_of, or_bytes, joined};
-ghost use Rattle.map_bands.specs.Bands.{eight as eightOf};
+ghost use Rattle.map_bands.specs.Bands.{eight as eight_of};
 
 pub const BANDS: usize = 8;
 
@@ -22,7 +22,7 @@ fn mark(b: bool) -> u8
 
 // Which of the eight values of three bits fit a mask and a pattern: a bit for each.
 fn eight(m: u8, p: u8) -> u8
-    ensures { result ≡ eightOf m p }
+    ensures { result ≡ eight_of m p }
 {
     mark((0 & m) == p)
         + 2 * mark((1 & m) == p)

@@ -2,11 +2,11 @@
 ghost use Rattle.std.specs.Prelude.{◌≡◌, ℕ, ◌<◌, length, take};
 ghost use Rattle.derived.specs.Derived.{same_bytes};
 ghost use Rattle.map_rule.specs.Map.{map_size, maps_size, narrow_ids, map_bytes, bit_in};
-ghost use Rattle.map_rule.specs.Map.{maps as mapsOf};
+ghost use Rattle.map_rule.specs.Map.{maps as maps_of};
 ghost use Rattle.machine.specs.Limits.{most_places};
 ghost use Rattle.layout.specs.Sizes.{filters_size};
 ghost use Rattle.layout.specs.Memory.{filters};
-ghost use Rattle.layout.specs.Memory.{mapped as mappedOf};
+ghost use Rattle.layout.specs.Memory.{mapped as mapped_of};
 ghost use Rattle.filterbank.specs.Part.{FilterPart, Unmapped};
 ghost use Rattle.maps.specs.Chosen.{mapped_at, none_mapped, chosen_at};
 
@@ -78,7 +78,7 @@ fn make(part: &[u8], block: bool, map: &mut [u8])
 // The two maps of a channel's filters: pass first, then block.
 fn write(part: &[u8], map: &mut [u8])
     requires { FilterPart part.now × (length map.old ≡ maps_size) }
-    ensures { (flags : ℕ) → map.new ≡ mapsOf ((filters flags).get part.now) }
+    ensures { (flags : ℕ) → map.new ≡ maps_of ((filters flags).get part.now) }
 {
     make(part, false, &mut map[0..MAP_SIZE]);
     make(part, true, &mut map[MAP_SIZE..MAPS_SIZE]);
@@ -87,7 +87,7 @@ fn write(part: &[u8], map: &mut [u8])
 // The maps made anew behind a channel's filters.
 pub fn remake(m: &mut [u8])
     requires { Unmapped m.old }
-    ensures { (flags : ℕ) → m.new ≡ (mappedOf flags).put ((filters flags).get (take filters_size m.old)) }
+    ensures { (flags : ℕ) → m.new ≡ (mapped_of flags).put ((filters flags).get (take filters_size m.old)) }
 {
     let mut part = [0u8; FILTERS_SIZE];
     octets::copy(&mut part, &m[0..FILTERS_SIZE]);
@@ -107,7 +107,7 @@ fn fits(part: &[u8], block: bool, map: &[u8]) -> bool
 // Are these bytes the maps of a channel's filters? Zeros where no filter is of the map.
 pub fn fit(part: &[u8], map: &[u8]) -> bool
     requires { FilterPart part.now × (length map.now ≡ maps_size) }
-    ensures { (flags : ℕ) → result ≡ same_bytes map.now (mapsOf ((filters flags).get part.now)) }
+    ensures { (flags : ℕ) → result ≡ same_bytes map.now (maps_of ((filters flags).get part.now)) }
 {
     if none_mapped(part) {
         return octets::all_zero(map);

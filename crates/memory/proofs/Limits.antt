@@ -11,7 +11,7 @@ use Rattle.layout.proofs.Limits.{Limits, good_limits, Silent, listener_silent}
 use Rattle.iso.specs.Iso.{OpenIso, shut, ready}
 use Rattle.iso_layout.specs.Region.{iso_region}
 use Rattle.iso_layout.proofs.Good.{FineIso, iso_good, fine_shut}
-use Rattle.iso_layout.proofs.Limits as iso-limits
+use Rattle.iso_layout.proofs.Limits as iso_limits
 use Rattle.whole.specs.Device.{chan_at, iso_at}
 use Rattle.memory.specs.Memory.{load, valid}
 use Rattle.memory.proofs.Memory.{ok_load}
@@ -31,7 +31,7 @@ module _ (m : List ℕ) (v : T (valid m)) where
   pub listener_limits : (i : ℕ) (o : Open) → chan_at i (load m) ≡ opened o → T (listens o.config.flags) → Silent o
   listener_limits i o e t = listener_silent o (channel_limits i o e) t
 
-  pub iso_channel_limits : (i : ℕ) (o : OpenIso) → iso_at i (load m) ≡ ready o → iso-limits.Limits o
+  pub iso_channel_limits : (i : ℕ) (o : OpenIso) → iso_at i (load m) ≡ ready o → iso_limits.Limits o
   unfolding iso_at
   iso_channel_limits i o e =
-      iso-limits.good_limits o (iso_good o (subst FineIso e (all_at iso_region.ok (load m).isos i shut fine_shut (ok_sane (load m) (ok_load m v)).each_iso_fine)))
+      iso_limits.good_limits o (iso_good o (subst FineIso e (all_at iso_region.ok (load m).isos i shut fine_shut (ok_sane (load m) (ok_load m v)).each_iso_fine)))

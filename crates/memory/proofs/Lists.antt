@@ -15,17 +15,17 @@ use Rattle.machine.specs.Channel.{Chan, closed, opened, is_open, Answer, says, P
 use Rattle.machine.specs.Step.{Event, call}
 use Rattle.machine.proofs.Parameters.{set_many, get_many}
 use Rattle.layout.specs.Sizes.{region_size}
-use Rattle.layout.specs.Promise as raw-promise
+use Rattle.layout.specs.Promise as raw_promise
 use Rattle.layout.specs.Promise.{Result, gives, answered}
 use Rattle.layout.specs.Reach.{Bytes}
 use Rattle.layout.proofs.Region.{open_of}
-use Rattle.layout.proofs.Region as raw-region
+use Rattle.layout.proofs.Region as raw_region
 use Rattle.layout.proofs.Calls.{Known}
 use Rattle.iso.specs.Iso.{Iso, shut, ready, is_ready, on_ready}
 use Rattle.iso.proofs.Lists.{iso_set_many, iso_get_many}
 use Rattle.iso_layout.specs.Sizes.{iso_region_size, iso_last_at}
 use Rattle.iso_layout.proofs.Region.{ready_of}
-use Rattle.iso_layout.proofs.Region as iso-region
+use Rattle.iso_layout.proofs.Region as iso_region
 use Rattle.whole.specs.Device.{Device, raw, iso, chan_at, iso_at, any_at, step}
 use Rattle.whole.specs.Demands.{pair_codes, SetEnded, GetEnded}
 use Rattle.whole.proofs.Dispatch.{any_raw, any_iso}
@@ -91,13 +91,13 @@ module _ (m : List ℕ) (v : T (valid m)) (k base : ℕ) where
     abbrev pub Over : Type 0
     Over = (gives 0x04 0 [] zs ≡ outcome rates m (call k (set_list ps))) × (gives 0x04 0 (flat ps) zs ≡ outcome rates m (call k (get_list ps)))
 
-    pub raw_over : RawSeat m k base → zs ≡ raw-promise.noted_in base 0x04 m → Over
+    pub raw_over : RawSeat m k base → zs ≡ raw_promise.noted_in base 0x04 m → Over
     unfolding on_open
     raw_over s n =
         let r : List ℕ = mid_of base (base + region_size - base) m in
         let o = raw_lent_law m v k base s in (
-          raw_looked m v k base s rates (set_list ps) refl 4 0 [] (raw-region.stays r o rates (load m).clock (set_list ps) 4 0 [] (set_many rates (open_of r) ps h)) zs n,
-          raw_looked m v k base s rates (get_list ps) refl 4 0 (flat ps) (raw-region.stays r o rates (load m).clock (get_list ps) 4 0 (flat ps) (get_many rates (open_of r) ps h)) zs n,
+          raw_looked m v k base s rates (set_list ps) refl 4 0 [] (raw_region.stays r o rates (load m).clock (set_list ps) 4 0 [] (set_many rates (open_of r) ps h)) zs n,
+          raw_looked m v k base s rates (get_list ps) refl 4 0 (flat ps) (raw_region.stays r o rates (load m).clock (get_list ps) 4 0 (flat ps) (get_many rates (open_of r) ps h)) zs n,
         )
 
     pub iso_over : IsoSeat m k base → zs ≡ noted_in iso_last_at base 0x04 m → Over
@@ -105,8 +105,8 @@ module _ (m : List ℕ) (v : T (valid m)) (k base : ℕ) where
     iso_over s n =
         let r : List ℕ = mid_of base (base + iso_region_size - base) m in
         let o = iso_lent m v k base s in (
-          iso_looked m v k base s rates (set_list ps) 4 0 [] (iso-region.stays r o rates (load m).clock (set_list ps) 4 0 [] (iso_set_many rates (ready_of r) ps h)) zs n refl,
-          iso_looked m v k base s rates (get_list ps) 4 0 (flat ps) (iso-region.stays r o rates (load m).clock (get_list ps) 4 0 (flat ps) (iso_get_many rates (ready_of r) ps h)) zs n refl,
+          iso_looked m v k base s rates (set_list ps) 4 0 [] (iso_region.stays r o rates (load m).clock (set_list ps) 4 0 [] (iso_set_many rates (ready_of r) ps h)) zs n refl,
+          iso_looked m v k base s rates (get_list ps) 4 0 (flat ps) (iso_region.stays r o rates (load m).clock (get_list ps) 4 0 (flat ps) (iso_get_many rates (ready_of r) ps h)) zs n refl,
         )
 
 module _ (rates : List ℕ) (known : Known rates) where

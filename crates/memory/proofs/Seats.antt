@@ -18,7 +18,7 @@ use Rattle.machine.proofs.Refusals.{does_codes}
 use Rattle.machine.specs.Step.{call}
 use Rattle.layout.specs.Sizes.{region_size, flags_at, last_at}
 use Rattle.layout.specs.Memory.{region}
-use Rattle.layout.specs.Promise as raw-promise
+use Rattle.layout.specs.Promise as raw_promise
 use Rattle.layout.specs.Promise.{Result, gives, Opened, Speaker, region_gives, call_outcome}
 use Rattle.layout.proofs.Good.{fl}
 use Rattle.layout.proofs.Held.{call_small}
@@ -177,8 +177,8 @@ module _ (m : List ℕ) (v : T (valid m)) where
 -- ---- as the functions on a region say it
 
 -- a raw channel's code is noted by the raw layout's word
-same_note : (base c : ℕ) (m : List ℕ) → raw-promise.noted_in base c m ≡ noted_in last_at base c m
-unfolding raw-promise.noted_in noted_in
+same_note : (base c : ℕ) (m : List ℕ) → raw_promise.noted_in base c m ≡ noted_in last_at base c m
+unfolding raw_promise.noted_in noted_in
 same_note base zero m = refl
 same_note base (suc k) m = refl
 
@@ -209,17 +209,17 @@ module _ (m : List ℕ) (v : T (valid m)) (k base : ℕ) where
           sym (ap (λ (c : Chan). region_gives (on_call rates (load m).clock c x)) (is_open raw_here raw_lent_law) ∙ rw free refl)
 
       pub raw_called : (c u : ℕ) (b ys zs : List ℕ) → length ys ≡ region_size → gives c u b ys ≡ call_outcome rates (load m).clock raw_here x
-          → zs ≡ raw-promise.noted_in base c (put_mid base (base + region_size - base) m ys) → gives c u b zs ≡ outcome rates m (call k x)
+          → zs ≡ raw_promise.noted_in base c (put_mid base (base + region_size - base) m ys) → gives c u b zs ≡ outcome rates m (call k x)
       unfolding raw_kind raws region_gives
       raw_called c u b ys zs long r n = seat_called raw_kind m v k base s rates x c u b ys zs long (r ∙ spoken) (n ∙ same_note base c _) refl
 
       pub raw_looked : (c u : ℕ) (b : List ℕ) → gives c u b raw_here ≡ call_outcome rates (load m).clock raw_here x
-          → (zs : List ℕ) → zs ≡ raw-promise.noted_in base c m → gives c u b zs ≡ outcome rates m (call k x)
+          → (zs : List ℕ) → zs ≡ raw_promise.noted_in base c m → gives c u b zs ≡ outcome rates m (call k x)
       unfolding raw_kind raws region_gives
       raw_looked c u b e zs n = seat_looked raw_kind m v k base s rates x c u b (e ∙ spoken) zs (n ∙ same_note base c m) refl
 
     -- A LISTENER THAT IS ASKED TO SPEAK OUT says 0x01, and notes it
-    pub raw_muted : listens (word_at flags_at raw_here) ≡ true → (rates : List ℕ) (x : Call) → speaks_out x ≡ true → (zs : List ℕ) → zs ≡ raw-promise.noted_in base 0x01 m
+    pub raw_muted : listens (word_at flags_at raw_here) ≡ true → (rates : List ℕ) (x : Call) → speaks_out x ≡ true → (zs : List ℕ) → zs ≡ raw_promise.noted_in base 0x01 m
         → gives 0x01 0 (lent x) zs ≡ outcome rates m (call k x)
     unfolding raw_kind raws region_gives on_call says
     raw_muted h rates x out zs n =

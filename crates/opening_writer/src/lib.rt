@@ -1,6 +1,6 @@
 // Opening telegrams into bytes: the fields are looked at first, so that a refusal leaves the buffer as it was.
 ghost use Rattle.std.specs.Prelude.{◌≡◌, ◌≤◌, length};
-ghost use Rattle.telegram.specs.Telegram.{set_up, positive as positiveReply, negative as negativeReply, fields_fit, opening_fits, opening_bytes};
+ghost use Rattle.telegram.specs.Telegram.{set_up, positive as positive_reply, negative as negative_reply, fields_fit, opening_fits, opening_bytes};
 ghost use Rattle.telegram_types.specs.Face.{wrote, written_if, opening_said};
 
 use telegram_bytes::{all, both, refused};
@@ -28,7 +28,7 @@ fn set_up(destination: u8, rx_id: u16, application: u8, buf: &mut [u8]) -> Writt
 // A positive reply.
 fn positive(destination: u8, tx_id: u16, rx_id: u16, application: u8, buf: &mut [u8]) -> Written
     requires { 8 ≤ length buf.old }
-    ensures { wrote result buf.new ≡ written_if (fields_fit (positiveReply destination tx_id rx_id application)) (opening_bytes (positiveReply destination tx_id rx_id application)) buf.old }
+    ensures { wrote result buf.new ≡ written_if (fields_fit (positive_reply destination tx_id rx_id application)) (opening_bytes (positive_reply destination tx_id rx_id application)) buf.old }
 {
     let bytes = [
         destination,
@@ -48,7 +48,7 @@ fn positive(destination: u8, tx_id: u16, rx_id: u16, application: u8, buf: &mut 
 // A negative reply: it carries five bytes.
 fn negative(destination: u8, kind: u8, bytes: &[u8], buf: &mut [u8]) -> Written
     requires { 8 ≤ length buf.old }
-    ensures { wrote result buf.new ≡ written_if (fields_fit (negativeReply destination kind bytes.now)) (opening_bytes (negativeReply destination kind bytes.now)) buf.old }
+    ensures { wrote result buf.new ≡ written_if (fields_fit (negative_reply destination kind bytes.now)) (opening_bytes (negative_reply destination kind bytes.now)) buf.old }
 {
     if bytes.len() != 5 {
         return refused();

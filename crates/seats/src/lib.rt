@@ -2,7 +2,7 @@
 ghost use Rattle.std.specs.Prelude.{◌+◌, ◌≤◌, ◌-◌, ◌≡◌, T, length};
 ghost use borrow.Rule.Slice.PartMut.{mid_of};
 ghost use Rattle.codec.specs.Word.{word_at};
-ghost use Rattle.machine.specs.Channel.{listens as listensBy};
+ghost use Rattle.machine.specs.Channel.{listens as listens_by};
 ghost use Rattle.layout.specs.Sizes.{region_size, flags_at};
 ghost use Rattle.whole.specs.Device.{channels};
 ghost use Rattle.memory.specs.Memory.{valid};
@@ -56,7 +56,7 @@ pub fn raw_region_of(mem: &[u8], channel: u32) -> usize
 // Is the raw channel whose region begins at a place a listener? What would speak out is refused there.
 pub fn listens(mem: &[u8], at: usize) -> bool
     requires { at + region_size ≤ length mem.now }
-    ensures { result ≡ listensBy (word_at flags_at (mid_of at (at + region_size - at) mem.now)) }
+    ensures { result ≡ listens_by (word_at flags_at (mid_of at (at + region_size - at) mem.now)) }
 {
     can::listens(integers::word_at(&mem[at..at + places::REGION], places::FLAGS))
 }

@@ -18,7 +18,7 @@ use Rattle.machine.specs.Limits.{most_written}
 use Rattle.layout.specs.Sizes.{receiving_at, written_at, periodics_at, filters_size, mapped_size, periodics_size, written_size, receiving_size, rate_at, loopback_at, filters_at, number_size}
 use Rattle.layout.specs.Record.{row, body, rec36, out_cell, in_cell}
 use Rattle.map_rule.specs.Map.{maps_size}
-use Rattle.map_rule.proofs.Pack.{no_filters as no-maps}
+use Rattle.map_rule.proofs.Pack.{no_filters as no_maps}
 use Rattle.derived.specs.Derived.{derived}
 use Rattle.codec.proofs.Lists.{zeros_join}
 use Rattle.layout.specs.Memory.{filter_columns, filters, mapped, periodic_columns, periodics, receiving_part}
@@ -106,7 +106,7 @@ module _ (r : List ℕ) (o : Opened r) (rates : List ℕ) (t : ℕ) where
   -- and then the maps are zeros too
   no_mapped : (k : ℕ) → (mapped k).put none_yet ≡ zeros mapped_size
   unfolding mapped derived
-  no_mapped k = ap₂ (λ (a b : List ℕ). a ++ b) (no_filters k) no-maps ∙ zeros_join filters_size maps_size mapped_size refl
+  no_mapped k = ap₂ (λ (a b : List ℕ). a ++ b) (no_filters k) no_maps ∙ zeros_join filters_size maps_size mapped_size refl
 
   module _ (kind : ℕ) where
     pub clear_written : kind ≡ 1 → Cleared kind written_at written_size

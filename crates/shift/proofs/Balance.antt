@@ -17,7 +17,7 @@ use Rattle.link.specs.Connection.{Offer, passing}
 use Rattle.machine.specs.Channel.{Chan, closed, opened, Open, Call, RawCall, opens_link, sends_link, receives_link, ends_link, decides, saves, loads, disconnect, start_filter, start_flow, stop_filter, start_periodic, stop_periodic, write, read, take_next, sent, clear, get_parameter, set_parameter, last_error, get_list, set_list, on_raw, Answer, says, Outcome, lent, with_config, with_filters, with_sending, with_receiving, with_link, with_last, unless, done_with, frame_code, on_frame, heard_by, arrive, reading, on_read, on_start_filter, on_stop_filter, on_start_periodic, on_stop_periodic, on_write, on_advance, Next, next, giving, chosen, chosen_or, may_go, taking, on_take, landed, sending, on_sent, on_clear, on_get, on_set, set_to, on_get_list, on_set_list, on_raw_call, on_link_open, on_link_send, on_link_receive, on_link_end, on_decide, store_in, on_save, loaded, on_load, connect_code, is_open, on_connect, fresh, on_open, on_call, is_raw_flags, muted, notes, noted, noted_in_use}
 use Rattle.machine.specs.Channel as chan
 use Rattle.machine.specs.Step.{Event, connect, call, frame, advance, close, chan_step}
-use Rattle.machine.specs.Step as raw-step
+use Rattle.machine.specs.Step as raw_step
 use Rattle.machine.specs.Demands.{queue_of}
 use Rattle.machine.proofs.Refusals.{unless_case, if_case, load_case}
 use Rattle.machine.specs.Store.{read_whole}
@@ -363,7 +363,7 @@ module _ (rates : List ℕ) (i : ℕ) (h : i < 4) (d : Device) (w : EightChannel
 
   -- the answer to a frame on its line
   frame_answer : (l w n : ℕ) (b : List ℕ) → l ≡ i → (step rates d (frame l w n b)).1.code ≡ frame_code w n b
-  unfolding step answer answer_by speaker own_answer raw-step.own_answer says code_of
+  unfolding step answer answer_by speaker own_answer raw_step.own_answer says code_of
   frame_answer l w n b e = rw (le-ltb 3 l (omega arith))
 
   frame_step : (l w n : ℕ) (b : List ℕ) → StepEven (frame l w n b)

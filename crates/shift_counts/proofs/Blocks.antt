@@ -16,7 +16,7 @@ use Rattle.machine.specs.Message.{Rec, id_bytes}
 use Rattle.machine.specs.Filter.{taken}
 use Rattle.machine.specs.Channel.{Chan, closed, opened, Open, Call, disconnect, read, sent, clear, Answer, says, unless, done_with, frame_code, shorter, reading, on_read, sending, on_sent, on_clear, on_open, on_call, noted, listens, lent}
 use Rattle.machine.specs.Step.{Event, connect, call, frame, advance, close}
-use Rattle.machine.specs.Step as raw-step
+use Rattle.machine.specs.Step as raw_step
 use Rattle.machine.specs.Demands.{queue_of}
 use Rattle.whole.specs.Device.{Device, chan_at, step, answer, answer_by, speaker, own_answer}
 use Rattle.whole.specs.Demands.{EightChannels}
@@ -236,7 +236,7 @@ module _ (rates : List ℕ) (d : Device) (eight : EightChannels d) where
     by_shape i = is_frame i l w n b (chan_at i d) a
 
     code_is : l < 4 → a.code ≡ frame_code w n b
-    unfolding step answer answer_by speaker own_answer raw-step.own_answer says code_of
+    unfolding step answer answer_by speaker own_answer raw_step.own_answer says code_of
     code_is h = rw (le-ltb 3 l (omega arith))
 
     off_line : (i : ℕ) → (l ≡ i → ⊥) → block i (chan_at i d) e a ≡ nothing

@@ -3,7 +3,7 @@ ghost use Rattle.std.specs.Prelude.{◌≡◌, ◌+◌, ◌*◌, ◌≤◌, leng
 ghost use Rattle.codec.specs.Code.{up_to};
 ghost use Rattle.machine.specs.Limits.{record_size, data_in};
 ghost use Rattle.layout.specs.Record.{rec36, width_fits};
-ghost use Rattle.layout.specs.Record.{outgoing as isOutgoing, incoming as isIncoming};
+ghost use Rattle.layout.specs.Record.{outgoing as is_outgoing, incoming as is_incoming};
 ghost use Rattle.stored_records.specs.Held.{fields_of};
 ghost use Rattle.stored_records.specs.Held.{cell as cell_of};
 
@@ -48,7 +48,7 @@ pub fn width_fits(s: &[u8], flags: u32, wide: bool) -> bool
 // The fields of a record held for sending, on a connection of these flags; a listener holds none.
 fn outgoing(s: &[u8], flags: u32) -> bool
     requires { length s.now ≡ record_size }
-    ensures { result ≡ isOutgoing flags (fields_of s.now) }
+    ensures { result ≡ is_outgoing flags (fields_of s.now) }
 {
     let tx = word_at(s, places::TX_FLAGS_IN);
     (word_at(s, places::RX_STATUS_IN) == 0)
@@ -61,7 +61,7 @@ fn outgoing(s: &[u8], flags: u32) -> bool
 // The fields of a record held for reading.
 fn incoming(s: &[u8], flags: u32) -> bool
     requires { length s.now ≡ record_size }
-    ensures { result ≡ isIncoming flags (fields_of s.now) }
+    ensures { result ≡ is_incoming flags (fields_of s.now) }
 {
     let rx = word_at(s, places::RX_STATUS_IN);
     ((rx == 0) | ((rx == 1) | ((rx == 0x100) | (rx == 0x101))))

@@ -33,7 +33,7 @@ use Rattle.stores.proofs.Written.{written_count, in_part}
 use Rattle.stores.proofs.Flight.{good, none_flies, flies, put_in_flight}
 use Rattle.pending.specs.Pending.{first_pending}
 use Rattle.pending.proofs.Next.{waiting, next_pending, next_oldest}
-use Rattle.pending.proofs.Next.{oldest as oldestOf}
+use Rattle.pending.proofs.Next.{oldest as oldest_of}
 use Rattle.pending.proofs.Marks.{changed_calm}
 use Rattle.pending.proofs.Any.{none_pending}
 use Rattle.offering.specs.Offering.{shown_or, without, Offered}
@@ -68,7 +68,7 @@ module _ (o : Open) (ten : length o.sending.periodics ≡ most_places) {i : ℕ}
       let s = several ws k in
       record {
         one = record { chosen = s.oldest; periodics = ps; written = s.others };
-        is = next_oldest ps ten i first ws h ∙ ap (oldestOf ps) s.are;
+        is = next_oldest ps ten i first ws h ∙ ap (oldest_of ps) s.are;
         leaves = rw (le-ltb i most_places h) (ap (λ (w : List Rec). with_sending o ps (drop 1 w) o.sending.flight) s.are);
       }
 
@@ -82,7 +82,7 @@ module _ (o : Open) (ten : length o.sending.periodics ≡ most_places) {i : ℕ}
   goes_none : most_places ≤ i → length o.sending.written ≡ 0 → next o.sending.periodics o.sending.written ≡ none
   goes_none h e = next_oldest o.sending.periodics ten i first o.sending.written h ∙ go o.sending.written e
     where
-      go : (ws : List Rec) → length ws ≡ 0 → oldestOf o.sending.periodics ws ≡ none
+      go : (ws : List Rec) → length ws ≡ 0 → oldest_of o.sending.periodics ws ≡ none
       go [] e = refl
       go (x ∷ ws) e = absurd (suc-ne-zero (length ws) e)
 

@@ -19,7 +19,7 @@ use Rattle.iso.specs.Iso.{Iso, shut, on_iso_call, on_iso_connect, on_iso_frame, 
 use Rattle.iso.specs.Step.{iso_step}
 use Rattle.whole.specs.Demands.{EightChannels, names, concerns, with_any}
 use Rattle.machine.specs.Step.{Event, connect, call, frame, advance, close, chan_step, clock_after}
-use Rattle.machine.specs.Step as raw-step
+use Rattle.machine.specs.Step as raw_step
 use Rattle.whole.specs.Device.{Device, Any, raw, iso, chan_at, iso_at, any_at, line_of, protocol_at, nameable, connected, numbered, touches, speaker, own_answer, any_step, moved, after, answer_by, answer, step, run, answers}
 
 -- ---- which channels an event touches
@@ -542,7 +542,7 @@ module _ (rates : List ℕ) where
   step_advance d t = together d (advance t) (after_all d (advance t) (λ i. refl)) (answer_own d (advance t) refl)
 
   pub step_close : (d : Device) → step rates d close ≡ (record { clock = d.clock; chans = map (λ c. closed) d.chans; isos = map (λ c. shut) d.isos }, says 0x00 0 [])
-  unfolding chan_step iso_step touches speaker clock_after own_answer raw-step.own_answer
+  unfolding chan_step iso_step touches speaker clock_after own_answer raw_step.own_answer
   step_close d = together d close (after_all d close (λ i. refl)) (answer_own d close refl)
 
   -- an event that no channel answers and that leaves every channel and the clock
@@ -552,7 +552,7 @@ module _ (rates : List ℕ) where
 
   -- a call that names no channel leaves the device, whatever it holds
   pub step_unnamed : (d : Device) (k : ℕ) (x : Call) → EightChannels d → (within 1 8 k && nameable x (k - 1)) ≡ false → step rates d (call k x) ≡ (d, says 0x02 0 (lent x))
-  unfolding own_answer raw-step.own_answer clock_after speaker numbered touches
+  unfolding own_answer raw_step.own_answer clock_after speaker numbered touches
   step_unnamed d k x w out = step_nobody d (call k x) w refl (λ i h. by i h (eqb k (i + 1)) refl) (rw out)
     where
       by : (i : ℕ) → i < 8 → (b : Bool) → eqb k (i + 1) ≡ b → (eqb k (i + 1) && nameable x i) ≡ false

@@ -16,10 +16,10 @@ use Rattle.machine.specs.Limits.{most_pairs}
 use Rattle.machine.specs.Channel.{Open, Chan, closed, opened, Pairs, flat, Call, raw_only, get_parameter, set_parameter, get_list, set_list, Answer, says, lent, Outcome, set_to, on_set, on_open, on_call, notes, noted}
 use Rattle.machine.specs.Step.{Event, call, chan_step, clock_after}
 use Rattle.machine.proofs.Parameters.{either, set_many, get_many}
-use Rattle.machine.proofs.Pairs as raw-lists
+use Rattle.machine.proofs.Pairs as raw_lists
 use Rattle.iso.specs.Iso.{OpenIso, Iso, shut, ready, IsoOutcome, iso_set_to, on_iso_set, on_ready, on_iso_call, iso_notes, iso_noted}
 use Rattle.iso.specs.Step.{iso_step}
-use Rattle.iso.proofs.Lists as iso-lists
+use Rattle.iso.proofs.Lists as iso_lists
 use Rattle.whole.specs.Device.{channels, Device, Any, raw, iso, any_at, nameable, touches, speaker, any_step, after, step}
 use Rattle.whole.specs.Demands.{EightChannels, SetEnded, GetEnded, set_singly, get_singly, pair_codes, with_any}
 use Rattle.whole.proofs.Dispatch.{same_device, with_any_same, all_nameable, number_place, call_heard, channels_kept, chan_moves, after_one, call_only, step_spoken, step_no_channel}
@@ -48,13 +48,13 @@ module _ (rates : List ℕ) (now k : ℕ) where
   set_accepted : (c : Any) → IsOpen c → (p : ℕ × ℕ) → (on c (set_parameter p.0 p.1)).1.code ≡ 0 → SetOn c p
   unfolding any_step chan_step iso_step
   set_accepted c (open_raw o) p e =
-      let s = raw-lists.set_accepted rates now o p e in
+      let s = raw_lists.set_accepted rates now o p e in
       record {
         still = subst (λ (z : Chan). IsOpen (raw z)) (sym s.leaves) (open_raw s.next);
         goes = λ ps h. ap as_raw (s.goes ps h) ∙ ap (λ (z : Chan). on (raw z) (set_list ps)) (sym s.leaves);
       }
   set_accepted c (open_iso o) p e =
-      let s = iso-lists.iso_set_accepted rates now o p e in
+      let s = iso_lists.iso_set_accepted rates now o p e in
       record {
         still = subst (λ (z : Iso). IsOpen (iso z)) (sym s.leaves) (open_iso s.next);
         goes = λ ps h. ap as_iso (s.goes ps h) ∙ ap (λ (z : Iso). on (iso z) (set_list ps)) (sym s.leaves);
@@ -63,13 +63,13 @@ module _ (rates : List ℕ) (now k : ℕ) where
   set_refused : (c : Any) → IsOpen c → (p : ℕ × ℕ) (ps : Pairs) → length (p ∷ ps) ≤ most_pairs → ((on c (set_parameter p.0 p.1)).1.code ≡ 0 → ⊥)
       → on c (set_list (p ∷ ps)) ≡ on c (set_parameter p.0 p.1)
   unfolding any_step chan_step iso_step
-  set_refused c (open_raw o) p ps h n = ap as_raw (raw-lists.set_refused rates now o p ps h n)
-  set_refused c (open_iso o) p ps h n = ap as_iso (iso-lists.iso_set_refused rates now o p ps h n)
+  set_refused c (open_raw o) p ps h n = ap as_raw (raw_lists.set_refused rates now o p ps h n)
+  set_refused c (open_iso o) p ps h n = ap as_iso (iso_lists.iso_set_refused rates now o p ps h n)
 
   set_nothing : (c : Any) → IsOpen c → on c (set_list []) ≡ (c, says 0x00 0 [])
   unfolding any_step chan_step iso_step
-  set_nothing c (open_raw o) = ap as_raw (raw-lists.set_nothing rates now o)
-  set_nothing c (open_iso o) = ap as_iso (iso-lists.iso_set_nothing rates now o)
+  set_nothing c (open_raw o) = ap as_raw (raw_lists.set_nothing rates now o)
+  set_nothing c (open_iso o) = ap as_iso (iso_lists.iso_set_nothing rates now o)
 
   -- a single set's answer is its code alone
   set_says : (c : Any) → IsOpen c → (p v : ℕ) → (on c (set_parameter p v)).1 ≡ says (on c (set_parameter p v)).1.code 0 []
@@ -79,36 +79,36 @@ module _ (rates : List ℕ) (now k : ℕ) where
 
   get_leaves : (c : Any) → IsOpen c → (p : ℕ × ℕ) → (on c (get_parameter p.0)).1.code ≡ 0 → (on c (get_parameter p.0)).0 ≡ c
   unfolding any_step chan_step iso_step
-  get_leaves c (open_raw o) p e = ap raw (raw-lists.get_leaves rates now o p e)
-  get_leaves c (open_iso o) p e = ap iso (iso-lists.iso_get_leaves rates now o p e)
+  get_leaves c (open_raw o) p e = ap raw (raw_lists.get_leaves rates now o p e)
+  get_leaves c (open_iso o) p e = ap iso (iso_lists.iso_get_leaves rates now o p e)
 
   get_goes : (c : Any) → IsOpen c → (p : ℕ × ℕ) (ps : Pairs) → length (p ∷ ps) ≤ most_pairs → (on c (get_parameter p.0)).1.code ≡ 0
       → on c (get_list (p ∷ ps)) ≡ ((on c (get_list ps)).0, says (on c (get_list ps)).1.code 0 (p.0 ∷ (on c (get_parameter p.0)).1.value ∷ (on c (get_list ps)).1.buffer))
   unfolding any_step chan_step iso_step
-  get_goes c (open_raw o) p ps h e = ap as_raw (raw-lists.get_goes rates now o p ps h e)
-  get_goes c (open_iso o) p ps h e = ap as_iso (iso-lists.iso_get_goes rates now o p ps h e)
+  get_goes c (open_raw o) p ps h e = ap as_raw (raw_lists.get_goes rates now o p ps h e)
+  get_goes c (open_iso o) p ps h e = ap as_iso (iso_lists.iso_get_goes rates now o p ps h e)
 
   get_refused : (c : Any) → IsOpen c → (p : ℕ × ℕ) (ps : Pairs) → length (p ∷ ps) ≤ most_pairs → ((on c (get_parameter p.0)).1.code ≡ 0 → ⊥)
       → on c (get_list (p ∷ ps)) ≡ ((on c (get_parameter p.0)).0, says (on c (get_parameter p.0)).1.code 0 (flat (p ∷ ps)))
   unfolding any_step chan_step iso_step
-  get_refused c (open_raw o) p ps h n = ap as_raw (raw-lists.get_refused rates now o p ps h n)
-  get_refused c (open_iso o) p ps h n = ap as_iso (iso-lists.iso_get_refused rates now o p ps h n)
+  get_refused c (open_raw o) p ps h n = ap as_raw (raw_lists.get_refused rates now o p ps h n)
+  get_refused c (open_iso o) p ps h n = ap as_iso (iso_lists.iso_get_refused rates now o p ps h n)
 
   get_nothing : (c : Any) → IsOpen c → on c (get_list []) ≡ (c, says 0x00 0 [])
   unfolding any_step chan_step iso_step
-  get_nothing c (open_raw o) = ap as_raw (raw-lists.get_nothing rates now o)
-  get_nothing c (open_iso o) = ap as_iso (iso-lists.iso_get_nothing rates now o)
+  get_nothing c (open_raw o) = ap as_raw (raw_lists.get_nothing rates now o)
+  get_nothing c (open_iso o) = ap as_iso (iso_lists.iso_get_nothing rates now o)
 
   -- more than 16 pairs
   many_set : (c : Any) → IsOpen c → (ps : Pairs) → most_pairs < length ps → (on c (set_list ps)).1.code ≡ 0x04
   unfolding any_step chan_step iso_step on_call on_open noted on_iso_call on_ready iso_noted says
   many_set c (open_raw o) ps h = ap (λ (x : Outcome). x.1.code) (set_many rates o ps h)
-  many_set c (open_iso o) ps h = ap (λ (x : IsoOutcome). x.1.code) (iso-lists.iso_set_many rates o ps h)
+  many_set c (open_iso o) ps h = ap (λ (x : IsoOutcome). x.1.code) (iso_lists.iso_set_many rates o ps h)
 
   many_get : (c : Any) → IsOpen c → (ps : Pairs) → most_pairs < length ps → (on c (get_list ps)).1.code ≡ 0x04
   unfolding any_step chan_step iso_step on_call on_open noted on_iso_call on_ready iso_noted says
   many_get c (open_raw o) ps h = ap (λ (x : Outcome). x.1.code) (get_many rates o ps h)
-  many_get c (open_iso o) ps h = ap (λ (x : IsoOutcome). x.1.code) (iso-lists.iso_get_many rates o ps h)
+  many_get c (open_iso o) ps h = ap (λ (x : IsoOutcome). x.1.code) (iso_lists.iso_get_many rates o ps h)
 
 -- ---- the same of a device's step, where the channel at place i is open
 

@@ -15,7 +15,7 @@ use Rattle.machine.specs.Limits.{last_line}
 use Rattle.machine.specs.Codes.{step_codes, code_of}
 use Rattle.machine.specs.Channel.{Chan, Call, Answer, says, lent, on_call, on_connect, on_frame, on_advance, connect_code, frame_code, noted, noted_in_use, notes}
 use Rattle.machine.specs.Step.{Event, connect, call, frame, advance, close, lent_by, chan_step, clock_after}
-use Rattle.machine.specs.Step as raw-step
+use Rattle.machine.specs.Step as raw_step
 use Rattle.machine.proofs.Refusals.{in_wider, if_out, either_in, code_of_listed, not_refused, connect_fair, call_noted, noted_in_use_answer, noted_in_use_leaves, chan_step_listed, frame_left, advance_left, advance_over, clock_left}
 use Rattle.machine.proofs.Refusals as raw_laws
 use Rattle.iso.specs.Iso.{Iso, shut, ready, iso_codes, on_iso_connect, on_iso_call, on_iso_frame, on_iso_advance, iso_connect_code, iso_notes, iso_noted, iso_noted_in_use}
@@ -169,7 +169,7 @@ module _ (rates : List ℕ) where
       ap₂ (λ (c : Chan) (z : Iso). with_line l c z d) (frame_left rates l w n b d.clock (chan_at l d) q t) (iso_frame_left rates l w n b d.clock (iso_at l d) q t) ∙ with_line_same l d
 
   refused_left : (d : Device) (e : Event) → EightChannels d → Left d e (step rates d e)
-  unfolding own_answer raw-step.own_answer says lent_by remembers speaker
+  unfolding own_answer raw_step.own_answer says lent_by remembers speaker
   refused_left d (connect l p f r) w = by (connected l p) refl
     where
       by : (o : Option ℕ) → connected l p ≡ o → Left d (connect l p f r) (step rates d (connect l p f r))

@@ -4,7 +4,7 @@ use Rattle.std.proofs.Math.Option.{Option, none, some}
 use Rattle.codec.specs.Plain.{if◌then◌else◌, within}
 use Rattle.machine.specs.Limits.{lines, can_protocol}
 use Rattle.machine.specs.Channel.{Chan, closed, Call, raw_only, Answer, says, connect_code}
-use Rattle.machine.specs.Step as raw-step
+use Rattle.machine.specs.Step as raw_step
 use Rattle.machine.specs.Step.{Event, connect, call, frame, advance, close, chan_step, clock_after}
 use Rattle.iso.specs.Limits.{iso_protocol}
 use Rattle.iso.specs.Iso.{Iso, shut, iso_connect_code}
@@ -76,10 +76,10 @@ speaker close = none
 unfoldable pub own_answer : List ℕ → Event → Answer
 own_answer rates (connect l p f r) =
     says (if eqb p iso_protocol then iso_connect_code rates p f r ((true, 0x13) ∷ []) else connect_code rates p f r ((true, 0x13) ∷ [])) 0 []
-own_answer rates (call k x) = raw-step.own_answer rates (call k x)
-own_answer rates (frame l w n b) = raw-step.own_answer rates (frame l w n b)
-own_answer rates (advance t) = raw-step.own_answer rates (advance t)
-own_answer rates close = raw-step.own_answer rates close
+own_answer rates (call k x) = raw_step.own_answer rates (call k x)
+own_answer rates (frame l w n b) = raw_step.own_answer rates (frame l w n b)
+own_answer rates (advance t) = raw_step.own_answer rates (advance t)
+own_answer rates close = raw_step.own_answer rates close
 
 -- what an event does to a channel of either kind that it touches, and what that channel says where it is the speaker
 unfoldable pub any_step : List ℕ → ℕ → Any → Event → Any × Answer

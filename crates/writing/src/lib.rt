@@ -2,7 +2,7 @@
 ghost use Rattle.std.specs.Prelude.{◌≡◌, List, [], ℕ, ◌*◌, ◌≤◌, not, T, length};
 ghost use Rattle.machine.specs.Limits.{record_size};
 ghost use Rattle.machine.specs.Channel.{listens, write_code, writing};
-ghost use Rattle.machine.specs.Channel.{write as writeOf};
+ghost use Rattle.machine.specs.Channel.{write as write_of};
 ghost use Rattle.layout.specs.Promise.{gives, Speaker, call_outcome};
 ghost use Rattle.stores.specs.Written.{written, WrittenPart};
 ghost use Rattle.writing.specs.Store.{Queued, Stopped};
@@ -55,7 +55,7 @@ fn queue_all(store: &mut [u8], flags: u32, n: u32, buffer: &[u8]) -> Answer
 // Write: the first n records of the buffer, in order, until one is refused or 16 are held.
 pub fn write(r: &mut [u8], n: u32, buffer: &[u8]) -> Answer
     requires { Speaker r.old }
-    ensures { (rates : List ℕ) (t : ℕ) → gives result.code result.value [] r.new ≡ call_outcome rates t r.old (writeOf n buffer.now) }
+    ensures { (rates : List ℕ) (t : ℕ) → gives result.code result.value [] r.new ≡ call_outcome rates t r.old (write_of n buffer.now) }
 {
     if buffer.len() < places::RECORD * n as usize {
         return Answer {

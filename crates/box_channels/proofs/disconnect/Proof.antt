@@ -4,7 +4,7 @@ use native.Mathlib.Omega.{arith}
 use lib.ListN.{length}
 use Rattle.machine.specs.Channel.{lent}
 use Rattle.layout.specs.Sizes.{region_size}
-use Rattle.layout.specs.Promise as raw-promise
+use Rattle.layout.specs.Promise as raw_promise
 use Rattle.iso_layout.specs.Sizes.{iso_region_size}
 use Rattle.memory.specs.Promise.{noted_in}
 use Rattle.memory.proofs.Seats.{raw_ends, raw_lent_law, raw_called, iso_ends, iso_lent, iso_called}
@@ -14,7 +14,7 @@ use Rattle.box_channels.proofs.disconnect.Tie as tie
 
 -- the code is 0x00, so that nothing is noted
 returns_2 : tie.Need-returns-2
-unfolding raw-promise.noted_in
+unfolding raw_promise.noted_in
 returns_2 c rates =
     let did = c.before.before in
     let at = did.before.before.before.before in

@@ -2,7 +2,7 @@
 use mathlib.Core.Path.{refl}
 use native.Mathlib.Omega.{arith}
 use Rattle.machine.specs.Channel.{lent}
-use Rattle.layout.specs.Promise as raw-promise
+use Rattle.layout.specs.Promise as raw_promise
 use Rattle.memory.specs.Promise.{noted_in}
 use Rattle.memory.proofs.Seats.{raw_ends, raw_lent_law, raw_looked, iso_ends, iso_lent, iso_looked}
 use borrow.Author.Rules.{rules}
@@ -11,7 +11,7 @@ use Rattle.box_channels.proofs.last_error.Tie as tie
 
 -- the code is 0x00, so that nothing is noted
 returns_2 : tie.Need-returns-2
-unfolding raw-promise.noted_in
+unfolding raw_promise.noted_in
 returns_2 c rates =
     let at = c.before.before.before.before in
     let seat = at.region-of.ensures.raw c.before.before.before.if1.false c.before.before.if2.true in

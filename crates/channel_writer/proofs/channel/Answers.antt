@@ -2,6 +2,7 @@
 use Rattle.telegram.specs.Telegram.{fits, on_wire}
 use Rattle.telegram_types.specs.Face.{channel_said}
 use Rattle.channel_writer.proofs.channel.Goals as goal
+use Rattle.channel_writer.proofs.channel.Goals.{After-data}
 
 pub returns-in-Data : goal.returns-in-Data
 unfolding channel_said

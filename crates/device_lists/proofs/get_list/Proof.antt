@@ -68,13 +68,13 @@ use Rattle.device_lists.proofs.Lists.{get_from, get_begins, get_done, get_next, 
 use Rattle.device_lists.specs.contracts.Pair as T
 use Rattle.device_lists.proofs.Pair.TheLaws as T'
 use Rattle.device_lists.specs.contracts.begin as beg
-use Rattle.device_lists.proofs.begin.Symbol as beg-def
+use Rattle.device_lists.proofs.begin.Symbol as beg_def
 use Rattle.device_lists.proofs.begin.Symbol.{name as #device-lists·begin}
-use Rattle.device_lists.proofs.begin.Met as beg-thm
+use Rattle.device_lists.proofs.begin.Met as beg_thm
 use Rattle.device_lists.specs.contracts.get_one as one
 use Rattle.device_lists.proofs.get_one.Symbol as one_def
 use Rattle.device_lists.proofs.get_one.Symbol.{name as #device-lists·get-one}
-use Rattle.device_lists.proofs.get_one.Met as one-thm
+use Rattle.device_lists.proofs.get_one.Met as one_thm
 use Rattle.device_lists.specs.contracts.get_list.Key.{name as #device-lists·get-list}
 use Rattle.device_lists.specs.contracts.get_list as f
 use Rattle.device_lists.proofs.get_list.Statement as stated
@@ -458,5 +458,5 @@ get_list_spec 𝓤 𝓛 𝓜 𝓡 =
     entered 𝓤 𝓛.H (triple_of 𝓛 f.signature (f.spec 𝓛 𝓜.mem 𝓡.run))
     (tables 𝓤 𝓛.H 𝓜 𝓡 code.env).C (tables 𝓤 𝓛.H 𝓜 𝓡 code.env).Λ #device-lists·get-list code.function (code.unfolded 𝓤 𝓛.H 𝓜 𝓡)
     (get_list_meets 𝓛 𝓜.mem 𝓡.run (tables_of 𝓤 𝓛.H 𝓜 (tables 𝓤 𝓛.H 𝓜 𝓡 code.env))
-    (cited 𝓤 𝓛.H (Beg 𝓛 𝓜.mem 𝓡.run) 𝓜 𝓡 code.env #device-lists·begin beg-def.routine code.calls-device-lists::begin (beg-thm.met 𝓤 𝓛 𝓜 𝓡))
-    (cited 𝓤 𝓛.H (One 𝓛 𝓜.mem 𝓡.run) 𝓜 𝓡 code.env #device-lists·get-one one_def.routine code.calls-device-lists::get-one (one-thm.met 𝓤 𝓛 𝓜 𝓡)))
+    (cited 𝓤 𝓛.H (Beg 𝓛 𝓜.mem 𝓡.run) 𝓜 𝓡 code.env #device-lists·begin beg_def.routine code.calls-device-lists::begin (beg_thm.met 𝓤 𝓛 𝓜 𝓡))
+    (cited 𝓤 𝓛.H (One 𝓛 𝓜.mem 𝓡.run) 𝓜 𝓡 code.env #device-lists·get-one one_def.routine code.calls-device-lists::get-one (one_thm.met 𝓤 𝓛 𝓜 𝓡)))

@@ -63,13 +63,13 @@ use Rattle.device_lists.proofs.Lists.{set_from, set_done, set_next, set_last, li
 use Rattle.device_lists.specs.contracts.Pair as T
 use Rattle.device_lists.proofs.Pair.TheLaws as T'
 use Rattle.device_lists.specs.contracts.begin as beg
-use Rattle.device_lists.proofs.begin.Symbol as beg-def
+use Rattle.device_lists.proofs.begin.Symbol as beg_def
 use Rattle.device_lists.proofs.begin.Symbol.{name as #device-lists·begin}
-use Rattle.device_lists.proofs.begin.Met as beg-thm
+use Rattle.device_lists.proofs.begin.Met as beg_thm
 use Rattle.device_lists.specs.contracts.set_one as one
 use Rattle.device_lists.proofs.set_one.Symbol as one_def
 use Rattle.device_lists.proofs.set_one.Symbol.{name as #device-lists·set-one}
-use Rattle.device_lists.proofs.set_one.Met as one-thm
+use Rattle.device_lists.proofs.set_one.Met as one_thm
 use Rattle.device_lists.specs.contracts.set_list.Key.{name as #device-lists·set-list}
 use Rattle.device_lists.specs.contracts.set_list as f
 use Rattle.device_lists.proofs.set_list.Statement as stated
@@ -437,5 +437,5 @@ set_list_spec 𝓤 𝓛 𝓜 𝓡 =
     entered 𝓤 𝓛.H (triple_of 𝓛 f.signature (f.spec 𝓛 𝓜.mem 𝓡.run))
     (tables 𝓤 𝓛.H 𝓜 𝓡 code.env).C (tables 𝓤 𝓛.H 𝓜 𝓡 code.env).Λ #device-lists·set-list code.function (code.unfolded 𝓤 𝓛.H 𝓜 𝓡)
     (set_list_meets 𝓛 𝓜.mem 𝓡.run (tables_of 𝓤 𝓛.H 𝓜 (tables 𝓤 𝓛.H 𝓜 𝓡 code.env))
-    (cited 𝓤 𝓛.H (Beg 𝓛 𝓜.mem 𝓡.run) 𝓜 𝓡 code.env #device-lists·begin beg-def.routine code.calls-device-lists::begin (beg-thm.met 𝓤 𝓛 𝓜 𝓡))
-    (cited 𝓤 𝓛.H (One 𝓛 𝓜.mem 𝓡.run) 𝓜 𝓡 code.env #device-lists·set-one one_def.routine code.calls-device-lists::set-one (one-thm.met 𝓤 𝓛 𝓜 𝓡)))
+    (cited 𝓤 𝓛.H (Beg 𝓛 𝓜.mem 𝓡.run) 𝓜 𝓡 code.env #device-lists·begin beg_def.routine code.calls-device-lists::begin (beg_thm.met 𝓤 𝓛 𝓜 𝓡))
+    (cited 𝓤 𝓛.H (One 𝓛 𝓜.mem 𝓡.run) 𝓜 𝓡 code.env #device-lists·set-one one_def.routine code.calls-device-lists::set-one (one_thm.met 𝓤 𝓛 𝓜 𝓡)))

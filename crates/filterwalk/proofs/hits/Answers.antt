@@ -7,7 +7,7 @@ use Prim.Native.Nat.{◌+◌, ◌<◌}
 use native.Mathlib.Omega.{arith}
 use lib.ListN.{get_or}
 use borrow.Author.Rules.{rules}
-use borrow.Author.Tests.{eq-eqb, ne_eqb}
+use borrow.Author.Tests.{eq-eqb, ne_eqb, not-true, not-false}
 use Rattle.codec.specs.Plain.{all_below}
 use Rattle.machine.specs.Limits.{most_places}
 use Rattle.layout.specs.Sizes.{sizes_in}
@@ -26,7 +26,7 @@ filters-preserved-then-heads-f c =
 pub filters-preserved-then-wide-heads : goal.filters-preserved-then-wide-heads
 filters-preserved-then-wide-heads c =
     let l = c.filters in
-    other_width _ _ _ _ _ _ l.next (search rules) l.invariant c.requires.1 c.if-heads-f.false c.if-wide-heads.true
+    other_width _ _ _ _ _ _ l.next (search rules) l.invariant c.requires.1 c.if-heads-f.false (not-true _ c.if-wide-heads.true)
 
 pub overflow_cast-size : goal.overflow_cast-size
 overflow_cast-size c = omega (arith, c.shared_slice_known-in-filters-2-1.given (sizes_in + c.filters.next))
@@ -63,7 +63,7 @@ pub returns-in-filters : goal.returns-in-filters
 returns-in-filters c =
     let l = c.filters in
     let i = c.loop-b in
-    all_bytes _ _ _ _ _ _ l.next (search rules) l.invariant c.requires.1 c.if-heads-f.false i.b c.if-wide-heads.false
+    all_bytes _ _ _ _ _ _ l.next (search rules) l.invariant c.requires.1 c.if-heads-f.false i.b (not-false _ c.if-wide-heads.false)
     (not_longer _ c.args.len c.args.frame.now c.requires.3 c.if-size-len.false) (search rules) i.invariant.2
 
 pub returns : goal.returns

@@ -8,7 +8,7 @@ use Rattle.link_starts.proofs.Laws.{nothing_asked, counted_most, last_sent, more
 use Rattle.link_starts.proofs.data_sent.Goals as goal
 
 pub block_of-requires : goal.block_of-requires
-block_of-requires c κs = omega (arith, counted_most c.args.t1 c.args.size c.args.s.now c.requires.0 c.requires.1 c.if-s-eq-SENDS.true, c.word_at-n.ensures.0)
+block_of-requires c = omega (arith, counted_most c.args.t1 c.args.size c.args.s.now c.requires.0 c.requires.1 c.if-s-eq-SENDS.true, c.word_at-n.ensures.0)
 
 pub returns-then-wide-block_of : goal.returns-then-wide-block_of
 returns-then-wide-block_of c =

@@ -24,8 +24,8 @@ loop-h-preserved c =
     let e : c.if-h-hm.map ≡ partly ((l.h + 1) * band_size) (joined m a.hm a.hp a.lm a.lp) m =
     ⊎_elim
     (λ w. let n : l.h * band_size + band_size - l.h * band_size ≡ band_size = omega arith in
-    w.6 ∙ joined_band m a.hm a.hp a.lm a.lp c.requires l.h k l.map b.result _ _ n l.invariant.2 b.ensures (eq-eqb _ _ w.0.true) w.3.ensures)
-    (λ w. w.1 ∙ joined_apart m a.hm a.hp a.lm a.lp c.requires l.h k l.map l.invariant.2 (ne_eqb _ _ w.0.false))
+    w.map-is ∙ joined_band m a.hm a.hp a.lm a.lp c.requires l.h k l.map b.result _ _ n l.invariant.2 b.ensures (eq-eqb _ _ w.if-h-hm.true) w.put.ensures)
+    (λ w. w.map-is ∙ joined_apart m a.hm a.hp a.lm a.lp c.requires l.h k l.map l.invariant.2 (ne_eqb _ _ w.if-h-hm.false))
     c.if-h-hm.branch-raw in
     (omega arith, ap length e ∙ partly_long (joined m a.hm a.hp a.lm a.lp) m (goal_long m a.hm a.hp a.lm a.lp c.requires) ((l.h + 1) * band_size) (omega (arith, c.requires)) ∙ c.requires, e)
 

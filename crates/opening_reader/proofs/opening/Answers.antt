@@ -6,6 +6,7 @@ use Rattle.telegram.specs.Telegram.{opening, is_opening_id, is_destination, read
 use Rattle.telegram.proofs.Opening.{headed, unheaded, other_length}
 use Rattle.telegram_answers.proofs.Answers.{answers}
 use Rattle.opening_reader.proofs.opening.Goals as goal
+use Rattle.opening_reader.proofs.opening.Goals.{After-destination, Else-not-opening_id-destination}
 
 -- what the second test says of the identifier and the first byte
 test : (c : goal.After-destination)

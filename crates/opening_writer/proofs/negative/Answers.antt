@@ -6,6 +6,7 @@ use Rattle.telegram.specs.Telegram.{is_destination, is_negative, fields_fit, ope
 use Rattle.telegram.proofs.Tests.{both, together, first_false}
 use Rattle.telegram_bytes.proofs.Writes.{written, unwritten, are_bytes_law}
 use Rattle.opening_writer.proofs.negative.Goals as goal
+use Rattle.opening_writer.proofs.negative.Goals.{After-negative}
 
 -- what the test of the first two bytes says
 test : (c : goal.After-negative)

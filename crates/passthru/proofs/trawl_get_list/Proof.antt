@@ -49,7 +49,7 @@ use Rattle.device_lists.specs.contracts.Pair as T
 use Rattle.device_lists.specs.contracts.get_list as one
 use Rattle.device_lists.proofs.get_list.Symbol as one_def
 use Rattle.device_lists.proofs.get_list.Symbol.{name as #device-lists·get-list}
-use Rattle.device_lists.proofs.get_list.Met as one-thm
+use Rattle.device_lists.proofs.get_list.Met as one_thm
 use Rattle.passthru.specs.contracts.trawl_get_list.Key.{name as #passthru·trawl-get-list}
 use Rattle.passthru.specs.contracts.trawl_get_list as f
 use Rattle.passthru.proofs.trawl_get_list.Statement as stated
@@ -233,4 +233,4 @@ trawl_get_list_spec 𝓤 𝓛 𝓜 𝓡 =
     entered 𝓤 𝓛.H (triple_of 𝓛 f.signature (f.spec 𝓛 𝓜.mem 𝓡.run))
     (tables 𝓤 𝓛.H 𝓜 𝓡 code.env).C (tables 𝓤 𝓛.H 𝓜 𝓡 code.env).Λ #passthru·trawl-get-list code.function (code.unfolded 𝓤 𝓛.H 𝓜 𝓡)
     (trawl_get_list_meets 𝓛 𝓜.mem 𝓡.run (tables_of 𝓤 𝓛.H 𝓜 (tables 𝓤 𝓛.H 𝓜 𝓡 code.env))
-    (cited 𝓤 𝓛.H (One 𝓛 𝓜.mem 𝓡.run) 𝓜 𝓡 code.env #device-lists·get-list one_def.routine code.calls-device-lists::get-list (one-thm.met 𝓤 𝓛 𝓜 𝓡)))
+    (cited 𝓤 𝓛.H (One 𝓛 𝓜.mem 𝓡.run) 𝓜 𝓡 code.env #device-lists·get-list one_def.routine code.calls-device-lists::get-list (one_thm.met 𝓤 𝓛 𝓜 𝓡)))

@@ -49,7 +49,7 @@ use Rattle.device_lists.specs.contracts.Pair as T
 use Rattle.device_lists.specs.contracts.set_list as one
 use Rattle.device_lists.proofs.set_list.Symbol as one_def
 use Rattle.device_lists.proofs.set_list.Symbol.{name as #device-lists·set-list}
-use Rattle.device_lists.proofs.set_list.Met as one-thm
+use Rattle.device_lists.proofs.set_list.Met as one_thm
 use Rattle.passthru.specs.contracts.trawl_set_list.Key.{name as #passthru·trawl-set-list}
 use Rattle.passthru.specs.contracts.trawl_set_list as f
 use Rattle.passthru.proofs.trawl_set_list.Statement as stated
@@ -210,4 +210,4 @@ trawl_set_list_spec 𝓤 𝓛 𝓜 𝓡 =
     entered 𝓤 𝓛.H (triple_of 𝓛 f.signature (f.spec 𝓛 𝓜.mem 𝓡.run))
     (tables 𝓤 𝓛.H 𝓜 𝓡 code.env).C (tables 𝓤 𝓛.H 𝓜 𝓡 code.env).Λ #passthru·trawl-set-list code.function (code.unfolded 𝓤 𝓛.H 𝓜 𝓡)
     (trawl_set_list_meets 𝓛 𝓜.mem 𝓡.run (tables_of 𝓤 𝓛.H 𝓜 (tables 𝓤 𝓛.H 𝓜 𝓡 code.env))
-    (cited 𝓤 𝓛.H (One 𝓛 𝓜.mem 𝓡.run) 𝓜 𝓡 code.env #device-lists·set-list one_def.routine code.calls-device-lists::set-list (one-thm.met 𝓤 𝓛 𝓜 𝓡)))
+    (cited 𝓤 𝓛.H (One 𝓛 𝓜.mem 𝓡.run) 𝓜 𝓡 code.env #device-lists·set-list one_def.routine code.calls-device-lists::set-list (one_thm.met 𝓤 𝓛 𝓜 𝓡)))

@@ -60,21 +60,21 @@ use Rattle.reader.proofs.Reader.TheLaws as T'
 use Rattle.playing.specs.contracts.Turn as S
 use Rattle.playing.proofs.Turn.TheLaws as S'
 use Rattle.reader.specs.contracts.Reader.new as made
-use Rattle.reader.proofs.Reader.new.Symbol as new-def
+use Rattle.reader.proofs.Reader.new.Symbol as new_def
 use Rattle.reader.proofs.Reader.new.Symbol.{name as #reader·new}
-use Rattle.reader.proofs.Reader.new.Met as new-thm
+use Rattle.reader.proofs.Reader.new.Met as new_thm
 use Rattle.reader.specs.contracts.Reader.at_end as ends
-use Rattle.reader.proofs.Reader.at_end.Symbol as end-def
+use Rattle.reader.proofs.Reader.at_end.Symbol as end_def
 use Rattle.reader.proofs.Reader.at_end.Symbol.{name as #reader·at_end_law}
-use Rattle.reader.proofs.Reader.at_end.Met as end-thm
+use Rattle.reader.proofs.Reader.at_end.Met as end_thm
 use Rattle.reader.specs.contracts.Reader.moved_to as moved
-use Rattle.reader.proofs.Reader.moved_to.Symbol as moved-def
+use Rattle.reader.proofs.Reader.moved_to.Symbol as moved_def
 use Rattle.reader.proofs.Reader.moved_to.Symbol.{name as #reader·moved-to}
-use Rattle.reader.proofs.Reader.moved_to.Met as moved-thm
+use Rattle.reader.proofs.Reader.moved_to.Met as moved_thm
 use Rattle.playing.specs.contracts.play_at as one
 use Rattle.playing.proofs.play_at.Symbol as one_def
 use Rattle.playing.proofs.play_at.Symbol.{name as #playing·play-at}
-use Rattle.playing.proofs.play_at.Met as one-thm
+use Rattle.playing.proofs.play_at.Met as one_thm
 use Rattle.recording.specs.contracts.play_events.Key.{name as #recording·play-events}
 use Rattle.recording.specs.contracts.play_events as f
 use Rattle.recording.proofs.play_events.Statement as stated
@@ -514,7 +514,7 @@ play_events_spec 𝓤 𝓛 𝓜 𝓡 =
     entered 𝓤 𝓛.H (triple_of 𝓛 f.signature (f.spec 𝓛 𝓜.mem 𝓡.run))
     (tables 𝓤 𝓛.H 𝓜 𝓡 code.env).C (tables 𝓤 𝓛.H 𝓜 𝓡 code.env).Λ #recording·play-events code.function (code.unfolded 𝓤 𝓛.H 𝓜 𝓡)
     (play_events_meets 𝓛 𝓜.mem 𝓡.run (tables_of 𝓤 𝓛.H 𝓜 (tables 𝓤 𝓛.H 𝓜 𝓡 code.env))
-    (cited 𝓤 𝓛.H (New 𝓛 𝓜.mem 𝓡.run) 𝓜 𝓡 code.env #reader·new new-def.routine code.calls-reader::Reader::new (new-thm.met 𝓤 𝓛 𝓜 𝓡))
-    (cited 𝓤 𝓛.H (End 𝓛 𝓜.mem 𝓡.run) 𝓜 𝓡 code.env #reader·at_end_law end-def.routine code.calls-reader::Reader::at_end_law (end-thm.met 𝓤 𝓛 𝓜 𝓡))
-    (cited 𝓤 𝓛.H (One 𝓛 𝓜.mem 𝓡.run) 𝓜 𝓡 code.env #playing·play-at one_def.routine code.calls-playing::play-at (one-thm.met 𝓤 𝓛 𝓜 𝓡))
-    (cited 𝓤 𝓛.H (Moved 𝓛 𝓜.mem 𝓡.run) 𝓜 𝓡 code.env #reader·moved-to moved-def.routine code.calls-reader::Reader::moved-to (moved-thm.met 𝓤 𝓛 𝓜 𝓡)))
+    (cited 𝓤 𝓛.H (New 𝓛 𝓜.mem 𝓡.run) 𝓜 𝓡 code.env #reader·new new_def.routine code.calls-reader::Reader::new (new_thm.met 𝓤 𝓛 𝓜 𝓡))
+    (cited 𝓤 𝓛.H (End 𝓛 𝓜.mem 𝓡.run) 𝓜 𝓡 code.env #reader·at_end_law end_def.routine code.calls-reader::Reader::at_end_law (end_thm.met 𝓤 𝓛 𝓜 𝓡))
+    (cited 𝓤 𝓛.H (One 𝓛 𝓜.mem 𝓡.run) 𝓜 𝓡 code.env #playing·play-at one_def.routine code.calls-playing::play-at (one_thm.met 𝓤 𝓛 𝓜 𝓡))
+    (cited 𝓤 𝓛.H (Moved 𝓛 𝓜.mem 𝓡.run) 𝓜 𝓡 code.env #reader·moved-to moved_def.routine code.calls-reader::Reader::moved-to (moved_thm.met 𝓤 𝓛 𝓜 𝓡)))

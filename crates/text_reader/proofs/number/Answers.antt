@@ -8,13 +8,6 @@ use Rattle.text_reader.proofs.number.Reads as reads
 use Rattle.text_reader.proofs.number.Lts as lts
 use Rattle.text_reader.proofs.number.Goals as goal
 
--- the digit that was read is one below the base, or none
-module _ (c : tie.After-digit invariant_loop decreases_loop) where
-  abbrev at : tie.At-loop invariant_loop decreases_loop
-  at = c.before.before.before
-  abbrev start : tie.Start invariant_loop decreases_loop
-  start = at.before.before
-
 pub loop-i-init : goal.loop-i-init
 loop-i-init c = none_read _ _
 
@@ -26,15 +19,15 @@ overflow_cast-d c = omega arith
 
 pub returns-then-d-base : goal.returns-then-d-base
 returns-then-d-base c =
-    no_number (start d).requires.0 (start d).requires.1 (at d).loop.invariant c.loop-i-test.true (omega (arith, c.digit-d.ensures))
+    no_number c.requires.0 c.requires.1 c.loop-i.invariant c.loop-i-test.true (omega (arith, c.digit-d.ensures))
 
 pub overflow_mul-v : goal.overflow_mul-v
 overflow_mul-v c =
-    record { fits = omega (arith, product (start d).requires.0 (start d).requires.1 (at d).loop.invariant) }
+    record { fits = omega (arith, product c.requires.0 c.requires.1 c.loop-i.invariant) }
 
 pub overflow_add-v : goal.overflow_add-v
 overflow_add-v c =
-    record { fits = omega (arith, product (start d).requires.0 (start d).requires.1 (at d).loop.invariant) }
+    record { fits = omega (arith, product c.requires.0 c.requires.1 c.loop-i.invariant) }
 
 pub overflow_add-i : goal.overflow_add-i
 overflow_add-i c = omega arith
@@ -44,9 +37,9 @@ loop-i-smaller c = omega arith
 
 pub loop-i-preserved : goal.loop-i-preserved
 loop-i-preserved c =
-    subst (λ (n : ℕ). Read (start d).args.base (start d).args.s.now n ((at d).loop.i + 1))
-    (ap (λ (n : ℕ). near ((at d).loop.v * (start d).args.base + n)) (sym c.digit-d.ensures) ∙ sym c.at_most_far-v.ensures)
-    (one_more (start d).requires.0 (start d).requires.1 (at d).loop.invariant c.loop-i-test.true (omega (arith, c.digit-d.ensures)))
+    subst (λ (n : ℕ). Read c.args.base c.args.s.now n (c.loop-i.i + 1))
+    (ap (λ (n : ℕ). near (c.loop-i.v * c.args.base + n)) (sym c.digit-d.ensures) ∙ sym c.at_most_far-v.ensures)
+    (one_more c.requires.0 c.requires.1 c.loop-i.invariant c.loop-i-test.true (omega (arith, c.digit-d.ensures)))
 
 pub returns : goal.returns
 returns c = all_read c.requires.0 c.requires.1 c.loop-i.invariant c.loop-i-test.false

@@ -1,0 +1,17 @@
+-- `iso_stored::extra` meets its contract. Assumes nothing.
+use mathlib.Core.Path.{ap, sym, ◌∙◌}
+use mathlib.Core.Bool.{Bool}
+use Prim.Native.Nat.{ℕ}
+use Rattle.codec.specs.Plain.{if◌then◌else◌}
+use Rattle.iso_layout.specs.Record.{extra_is}
+use Rattle.iso_stored.proofs.extra.Goals as goal
+
+pub returns-then-indication : goal.returns-then-indication
+unfolding extra_is
+returns-then-indication c = let size : ℕ = c.args.size in
+    sym (ap (λ (b : Bool). if b then 0 else size) (sym c.indication.ensures ∙ c.if-indication.true))
+
+pub returns-else-indication : goal.returns-else-indication
+unfolding extra_is
+returns-else-indication c = let size : ℕ = c.args.size in
+    sym (ap (λ (b : Bool). if b then 0 else size) (sym c.indication.ensures ∙ c.if-indication.false))
