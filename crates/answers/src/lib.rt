@@ -1,4 +1,6 @@
 // Answers in bytes, for callers that know that there is room: a number, a code and a number, a code and a count, from a place on.
+#![tactic(auto)]
+
 ghost use Rattle.std.specs.Prelude.{◌≡◌, ◌+◌, ◌≤◌, length};
 ghost use Rattle.number.specs.Number.{bytes_of};
 ghost use Rattle.number.specs.Place.{Written};

@@ -1,4 +1,6 @@
 // A channel is set up, asked and closed, on a memory of the whole box that is known to be valid: disconnect, get, set, clear, last error.
+#![tactic(auto)]
+
 ghost use Rattle.std.specs.Prelude.{◌≡◌, List, [], ℕ, T};
 ghost use Rattle.machine.specs.Channel.{disconnect as disconnects};
 ghost use Rattle.machine.specs.Channel.{clear as clears};

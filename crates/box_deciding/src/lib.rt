@@ -1,4 +1,6 @@
 // Decided on the identifier alone, on a memory of the whole box that is known to be valid. The number is that of a raw channel.
+#![tactic(auto)]
+
 ghost use Rattle.std.specs.Prelude.{◌≡◌, List, [], ℕ, T};
 ghost use Rattle.machine.specs.Channel.{decide as decide_call};
 ghost use Rattle.machine.specs.Step.{call};

@@ -1,4 +1,6 @@
 // A frame from a line, on a memory of the whole box that is known to be valid.
+#![tactic(auto)]
+
 ghost use Rattle.std.specs.Prelude.{◌≡◌, List, [], ℕ, T, length};
 ghost use Rattle.machine.specs.Channel.{frame_code, on_frame};
 ghost use Rattle.machine.specs.Step.{frame as framed};

@@ -1,4 +1,6 @@
 // What concerns the whole box, on a memory of the whole box that is known to be valid: close.
+#![tactic(auto)]
+
 ghost use Rattle.std.specs.Prelude.{◌≡◌, List, [], ℕ, T};
 ghost use Rattle.machine.specs.Step.{close as closes};
 ghost use Rattle.layout.specs.Promise.{gives};

@@ -1,5 +1,7 @@
 // TP2.0 connections, on a memory of the whole box that is known to be valid: one is opened, sends and receives messages, and is ended. The number is that
 // of a raw channel, which is no listener.
+#![tactic(auto)]
+
 ghost use Rattle.std.specs.Prelude.{◌≡◌, List, [], ℕ, T};
 ghost use Rattle.machine.specs.Channel.{link_open, link_send, link_receive, link_end};
 ghost use Rattle.machine.specs.Step.{call};

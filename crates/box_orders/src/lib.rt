@@ -1,4 +1,6 @@
 // Standing orders of a channel, on a memory of the whole box that is known to be valid: its filters and periodics are started and stopped.
+#![tactic(auto)]
+
 ghost use Rattle.std.specs.Prelude.{◌≡◌, List, [], ℕ, T};
 ghost use Rattle.machine.specs.Channel.{start_filter, start_flow, stop_filter, start_periodic, stop_periodic};
 ghost use Rattle.machine.specs.Step.{call};

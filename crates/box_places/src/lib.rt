@@ -1,5 +1,7 @@
 // Where the regions lie in the memory of the whole box, for code: each number said once. That they are the numbers of the definitions is the promise
 // of `numbers`.
+#![tactic(auto)]
+
 ghost use Rattle.std.specs.Prelude.{◌≡◌};
 ghost use Rattle.box_places.specs.Named.{named};
 

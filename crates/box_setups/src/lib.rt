@@ -1,4 +1,6 @@
-// A channel's set_up saved and loaded, on a memory of the whole box that is known to be valid. The number is that of a raw channel.
+// A channel's set-up saved and loaded, on a memory of the whole box that is known to be valid. The number is that of a raw channel.
+#![tactic(auto)]
+
 ghost use Rattle.std.specs.Prelude.{◌≡◌, List, [], ℕ, T};
 ghost use Rattle.machine.specs.Channel.{save_setup, load_setup};
 ghost use Rattle.machine.specs.Step.{call};

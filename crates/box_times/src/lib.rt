@@ -1,4 +1,6 @@
 // Time that goes on, on a memory of the whole box that is known to be valid.
+#![tactic(auto)]
+
 ghost use Rattle.std.specs.Prelude.{◌≡◌, List, [], map, ℕ, ◌+◌, ◌*◌, ◌%◌, ◌≤◌, T, length};
 ghost use Rattle.codec.specs.Word.{word, word_at};
 ghost use Rattle.codec.specs.Code.{many};

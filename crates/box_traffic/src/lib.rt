@@ -1,4 +1,6 @@
 // A channel's traffic, on a memory of the whole box that is known to be valid: write, read, take, sent.
+#![tactic(auto)]
+
 ghost use Rattle.std.specs.Prelude.{◌≡◌, List, [], ℕ, T};
 ghost use Rattle.machine.specs.Channel.{write as writes};
 ghost use Rattle.machine.specs.Channel.{read as reads};

@@ -1,4 +1,6 @@
 // Are these bytes a memory of the whole box? Its four raw regions and its four ISO 15765 regions, each looked at by itself.
+#![tactic(auto)]
+
 ghost use Rattle.std.specs.Prelude.{◌≡◌, length, drop};
 ghost use Rattle.codec.specs.Code.{valid_all};
 ghost use Rattle.machine.specs.Limits.{lines};

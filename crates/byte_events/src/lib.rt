@@ -1,4 +1,6 @@
 // The arguments of the events that lend bytes.
+#![tactic(auto)]
+
 ghost use Rattle.events.specs.Found.{ReadsArguments};
 
 use event_parts::{Pair, Part};

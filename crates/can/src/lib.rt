@@ -1,4 +1,6 @@
 // What raw CAN means to the box: its protocol, widths and identifiers, the flags of a connection, rates.
+#![tactic(auto)]
+
 ghost use Rattle.std.specs.Prelude.{◌≡◌};
 ghost use Rattle.codec.specs.Plain.{member};
 ghost use Rattle.machine.specs.Codes.{three_rates};

@@ -1,4 +1,5 @@
 // The numbers of a candump log, each said once: the marks of a line, how many digits its parts have, and why a line stops an import.
+#![tactic(auto)]
 
 // `(`, `.`, `)`, a blank, `#`, the end of a line, and the digit 0.
 pub const OPENS: u8 = 40;

@@ -1,6 +1,8 @@
 // Replays recordings whose answers were worked out by hand from the scope and the requests, before any program ran them, and prints for each whether the
 // answers are as expected. The last line says how many are. The recording of a case is the file NAME.rec and its answers NAME.out, both in
 // the folder that the program is run in. They lie in data/, where INDEX.md says what each case shows; `./replay --cases` runs it there.
+#![tactic(auto)]
+
 mod difference;
 mod files;
 

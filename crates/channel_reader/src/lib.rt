@@ -1,4 +1,6 @@
 // Telegrams on a channel out of bytes: one function a kind; the first byte decides.
+#![tactic(auto)]
+
 ghost use Rattle.std.specs.Prelude.{◌≡◌, [], ◌∷◌, ◌/◌, ◌≤◌, ◌<◌, length, get_or};
 ghost use Rattle.std.proofs.Math.Option.{map};
 ghost use Rattle.telegram.specs.Bits.{bit};
@@ -39,7 +41,7 @@ fn data(bytes: &[u8]) -> Answer
     }
 }
 
-// A connection set_up or acknowledge.
+// A connection set-up or acknowledge.
 fn connection(bytes: &[u8]) -> Answer
     requires { (0 < length bytes.now) × (get_or bytes.now 0 0 / 2 ≡ 0x50) }
     ensures { told result ≡ answering (map travels (read_channel bytes.now)) }

@@ -1,4 +1,6 @@
 // The telegram on a channel that a record says: the fields that its kind has, compared as whole numbers before they are narrowed.
+#![tactic(auto)]
+
 ghost use Rattle.std.specs.Prelude.{◌≡◌, List, ℕ, ◌≤◌, length};
 ghost use Rattle.std.proofs.Math.Option.{some};
 ghost use Rattle.telegram_types.specs.Face.{taken_said};
@@ -43,7 +45,7 @@ fn acknowledge(bytes: &[u8]) -> Taken
     )
 }
 
-// A connection set_up or acknowledge.
+// A connection set-up or acknowledge.
 fn connection(bytes: &[u8]) -> Taken
     requires { 32 ≤ length bytes.now }
     ensures { kept (taken_said result (carried_in bytes.now)) ≡ kept (some (connection_in bytes.now)) }

@@ -1,4 +1,6 @@
 // Telegrams on a channel into bytes: the fields are looked at first, so that a refusal leaves the buffer as it was.
+#![tactic(auto)]
+
 ghost use Rattle.std.specs.Prelude.{◌≡◌, ◌≤◌, length};
 ghost use Rattle.telegram.specs.Telegram.{data_telegram, acknowledge as acknowledgement, connection as connection_telegram, fits, on_wire};
 ghost use Rattle.telegram_types.specs.Face.{wrote, written_if, channel_said};
@@ -37,7 +39,7 @@ fn acknowledge(ready: bool, sn: u8, buf: &mut [u8]) -> Written
     )
 }
 
-// A connection set_up or acknowledge.
+// A connection set-up or acknowledge.
 fn connection(ack: bool, block_size: u8, t1: u8, t2: u8, t3: u8, t4: u8, buf: &mut [u8]) -> Written
     requires { 8 ≤ length buf.old }
     ensures { wrote result buf.new ≡ written_if (fits (connection_telegram ack block_size t1 t2 t3 t4)) (on_wire (connection_telegram ack block_size t1 t2 t3 t4)) buf.old }

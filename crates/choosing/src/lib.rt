@@ -1,4 +1,6 @@
 // THE CHOICE of what a channel sends next: a pending periodic, else the connection's telegram, else a written record; and the channel that is without it.
+#![tactic(auto)]
+
 ghost use Rattle.std.specs.Prelude.{◌≡◌, false, ℕ, ◌≤◌, ◌<◌, T, length, get_or, drop};
 ghost use Rattle.machine.specs.Limits.{most_places, most_written, record_size};
 ghost use Rattle.layout.specs.Sizes.{written_at, written_size};

@@ -1,4 +1,6 @@
 // The clock: microseconds modulo 4,294,967,296.
+#![tactic(auto)]
+
 ghost use Rattle.std.specs.Prelude.{◌≡◌, ◌+◌, ◌%◌};
 
 #[derive(Drop)]

@@ -1,4 +1,6 @@
 // The configuration of a channel, whatever its kind: flags, rate and loopback mark, nine bytes lent; its parameters got and set.
+#![tactic(auto)]
+
 ghost use Rattle.std.specs.Prelude.{◌≡◌, T, length};
 ghost use Rattle.machine.specs.Channel.{get_in, set_in};
 ghost use Rattle.layout.specs.Sizes.{config_size};

@@ -1,4 +1,6 @@
 // Connecting: a fresh channel on a line, and its end.
+#![tactic(auto)]
+
 ghost use Rattle.std.specs.Prelude.{◌≡◌, List, [], ℕ, ◌<◌, T, length};
 ghost use Rattle.machine.specs.Limits.{lines};
 ghost use Rattle.machine.specs.Channel.{connect_code, on_connect, disconnect};

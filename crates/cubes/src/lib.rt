@@ -1,4 +1,6 @@
 // Is some number of a cube in none of ten others? A cube is a mask and a pattern, and stands for the numbers x with x AND mask = pattern.
+#![tactic(auto)]
+
 ghost use Rattle.std.specs.Prelude.{◌≡◌, ℕ, ◌<◌, length};
 ghost use Rattle.std.specs.Int.Bits.{bit_and};
 ghost use Rattle.cubes.specs.Cube.{Answered, SingleBit, Surveyed};

@@ -1,4 +1,6 @@
 // The question what a raw channel does with every frame of a width and an identifier, on the channel's region.
+#![tactic(auto)]
+
 ghost use Rattle.std.specs.Prelude.{◌≡◌, List, [], ℕ};
 ghost use Rattle.machine.specs.Channel.{decide as decide_call};
 ghost use Rattle.layout.specs.Promise.{gives, Opened, call_outcome};

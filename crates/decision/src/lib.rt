@@ -1,4 +1,6 @@
 // The answers to the question what becomes of every frame of a width with an identifier, and their numbers.
+#![tactic(auto)]
+
 ghost use Rattle.std.specs.Prelude.{◌≡◌, ◌≤◌};
 ghost use Rattle.decision.specs.Number.{number_of};
 

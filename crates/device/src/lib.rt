@@ -1,5 +1,7 @@
 // The 28 public calls of the box, on any bytes that are lent as its memory: each looks at the memory first, then does the call. The look itself
 // is `valid`.
+#![tactic(auto)]
+
 pub use box_places::BOX as MEMORY;
 pub use box_validity::valid;
 pub use decision::{Decided, Decision};

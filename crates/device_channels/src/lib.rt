@@ -1,4 +1,6 @@
 // A channel is opened, set up, asked and closed, on any bytes that are lent as the memory: connect, disconnect, get, set, clear, last error.
+#![tactic(auto)]
+
 ghost use Rattle.std.specs.Prelude.{◌≡◌, []};
 ghost use Rattle.machine.specs.Codes.{two_rates};
 ghost use Rattle.machine.specs.Channel.{disconnect as disconnects};

@@ -1,4 +1,6 @@
 // Decided on the identifier alone, on any bytes that are lent as the memory. The number is that of a raw channel.
+#![tactic(auto)]
+
 ghost use Rattle.std.specs.Prelude.{◌≡◌, []};
 ghost use Rattle.machine.specs.Codes.{two_rates};
 ghost use Rattle.machine.specs.Channel.{decide as decide_call};

@@ -1,4 +1,6 @@
 // What concerns a line or the whole box, on any bytes that are lent as its memory: power-on, a frame, time that goes on, close.
+#![tactic(auto)]
+
 ghost use Rattle.std.specs.Prelude.{◌≡◌, []};
 ghost use Rattle.machine.specs.Codes.{two_rates};
 ghost use Rattle.machine.specs.Step.{close as closes};

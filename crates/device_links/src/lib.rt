@@ -1,5 +1,7 @@
 // TP2.0 connections, on any bytes that are lent as the memory: one is opened, sends and receives messages, and is ended. The number is that of a raw
 // channel.
+#![tactic(auto)]
+
 ghost use Rattle.std.specs.Prelude.{◌≡◌, []};
 ghost use Rattle.machine.specs.Codes.{two_rates};
 ghost use Rattle.machine.specs.Channel.{link_open, link_send, link_receive, link_end};

@@ -1,4 +1,6 @@
 // Lists of parameters, on any bytes that are lent as the memory: set and get.
+#![tactic(auto)]
+
 ghost use Rattle.std.specs.Prelude.{◌≡◌, List, [], ℕ, T};
 ghost use Rattle.machine.specs.Codes.{two_rates};
 ghost use Rattle.machine.specs.Channel.{flat, get_parameter, set_parameter, get_list, set_list};

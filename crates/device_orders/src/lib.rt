@@ -1,4 +1,6 @@
 // Standing orders of a channel, on any bytes that are lent as the memory: its filters and periodics are started and stopped.
+#![tactic(auto)]
+
 ghost use Rattle.std.specs.Prelude.{◌≡◌, []};
 ghost use Rattle.machine.specs.Codes.{two_rates};
 ghost use Rattle.machine.specs.Channel.{start_filter, start_flow, stop_filter, start_periodic, stop_periodic};

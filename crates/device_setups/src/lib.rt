@@ -1,4 +1,6 @@
-// A channel's set_up saved and loaded, on any bytes that are lent as the memory. The number is that of a raw channel.
+// A channel's set-up saved and loaded, on any bytes that are lent as the memory. The number is that of a raw channel.
+#![tactic(auto)]
+
 ghost use Rattle.std.specs.Prelude.{◌≡◌, []};
 ghost use Rattle.machine.specs.Codes.{two_rates};
 ghost use Rattle.machine.specs.Channel.{save_setup, load_setup};

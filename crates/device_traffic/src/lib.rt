@@ -1,4 +1,6 @@
 // A channel's traffic, on any bytes that are lent as the memory: write, read, take, sent.
+#![tactic(auto)]
+
 ghost use Rattle.std.specs.Prelude.{◌≡◌, []};
 ghost use Rattle.machine.specs.Codes.{two_rates};
 ghost use Rattle.machine.specs.Channel.{write as writes};

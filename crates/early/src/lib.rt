@@ -1,4 +1,6 @@
 // Decided on the identifier alone: what a channel's filters say to every frame of a width with an identifier.
+#![tactic(auto)]
+
 ghost use Rattle.std.specs.Prelude.{◌≡◌, ℕ, ◌+◌, ◌≤◌, ◌<◌, length};
 ghost use Rattle.machine.specs.Limits.{most_places, most_data};
 ghost use Rattle.machine.specs.Message.{id_bytes};

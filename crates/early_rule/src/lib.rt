@@ -1,4 +1,6 @@
 // Decided on the identifier alone, where the data of ten filters are cubes: what the verdict is for every data.
+#![tactic(auto)]
+
 ghost use Rattle.std.specs.Prelude.{◌≡◌, ℕ, ◌≤◌, ◌<◌, Bool, List, length, get_or};
 ghost use Rattle.std.specs.Int.Bits.{bit_and};
 ghost use Rattle.machine.specs.Limits.{most_places};

@@ -1,4 +1,6 @@
 // The edition of a recording: one that begins with event 0 and the number 2 takes the rates of now, any other the old ones.
+#![tactic(auto)]
+
 ghost use Rattle.std.specs.Prelude.{◌≡◌};
 ghost use Rattle.edition.specs.Edition.{marked, start_of, mark_at};
 

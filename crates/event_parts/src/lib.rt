@@ -1,4 +1,6 @@
 // The parts of an event in a recording: two numbers in a row, and raw bytes.
+#![tactic(auto)]
+
 ghost use Rattle.std.specs.Prelude.{◌≡◌, ◌≤◌, length};
 ghost use Rattle.iso.specs.Limits.{iso_record_size};
 ghost use Rattle.event_parts.specs.Parts.{pair_of, two_numbers, part_of, end_of};

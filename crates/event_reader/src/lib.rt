@@ -1,4 +1,6 @@
 // The reader of events: each is read whole.
+#![tactic(auto)]
+
 ghost use Rattle.events.specs.Found.{ReadsArguments, ReadsEvent};
 
 use events::{Event, Found, Plain};

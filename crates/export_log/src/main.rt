@@ -1,5 +1,7 @@
 // Exports the bus frames of the recording on standard input as the lines of a candump log, from the start that the argument says in seconds. A line on
 // standard error says where and why the recording is bad, or that the program could not read or write.
+#![tactic(auto)]
+
 use libc::{STDERR_FILENO, STDOUT_FILENO};
 use start_time::Start;
 

@@ -1,4 +1,6 @@
 // Exports the bus frames of a recording as the lines of a candump log, in pieces of whole lines.
+#![tactic(auto)]
+
 ghost use Rattle.std.specs.Prelude.{◌≡◌, ◌+◌, ◌*◌, ◌≤◌, ◌<◌, length};
 ghost use Rattle.recording_sizes.specs.Sizes.{longest};
 ghost use Rattle.machine.specs.Step.{frame, advance};

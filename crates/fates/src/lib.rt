@@ -1,4 +1,6 @@
 // What becomes of a good bus frame on an open channel: the place of the number that the shift report counts it in.
+#![tactic(auto)]
+
 ghost use Rattle.std.specs.Prelude.{◌≡◌, true, false, ◌++◌, ℕ, ◌≤◌, length, take, drop};
 ghost use Rattle.machine.specs.Limits.{most_bytes};
 ghost use Rattle.machine.specs.Message.{id_bytes};

@@ -1,4 +1,6 @@
 // Where and why a recording is bad: its first bad event, and the first part of that event which cannot be read.
+#![tactic(auto)]
+
 ghost use Rattle.std.specs.Prelude.{◌≡◌, ◌≤◌, drop};
 ghost use Rattle.iso.specs.Limits.{iso_record_size};
 ghost use Rattle.fault.specs.Fault.{told, why_bad, number_after, bytes_after, pieces_after, flow_after, arguments_after, edition_fault, event_fault, fault_in};

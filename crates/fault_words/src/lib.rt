@@ -1,4 +1,6 @@
 // What is wrong with a recording, in words on a descriptor. Bytes are counted from 0, events from 1.
+#![tactic(auto)]
+
 use fault::Spot;
 
 // Words, a number and words again.

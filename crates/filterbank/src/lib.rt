@@ -1,4 +1,6 @@
 // The filter bank of a channel, ten places for filters: the first empty one, and another filter at a place.
+#![tactic(auto)]
+
 ghost use Rattle.std.specs.Prelude.{◌≡◌, ℕ, ◌+◌, ◌≤◌, ◌<◌, length, set, take, drop};
 ghost use Rattle.std.proofs.Math.Option.{Option};
 ghost use Rattle.machine.specs.Limits.{most_places, most_data};

@@ -1,4 +1,6 @@
 // The checks of a filter that is to be started.
+#![tactic(auto)]
+
 ghost use Rattle.std.specs.Prelude.{◌≡◌};
 ghost use Rattle.codec.specs.Plain.{within};
 ghost use Rattle.machine.specs.Filter.{free};

@@ -1,4 +1,6 @@
 // A channel's filters: how one is started and stopped.
+#![tactic(auto)]
+
 ghost use Rattle.std.specs.Prelude.{◌≡◌, List, [], ℕ, ◌<◌, set};
 ghost use Rattle.std.proofs.Math.Option.{some};
 ghost use Rattle.machine.specs.Limits.{most_places};

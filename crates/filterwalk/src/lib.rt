@@ -1,4 +1,6 @@
 // The walk of ten filters over a frame: block filters first, pass filters only where no block filter matches, each up to the first that matches.
+#![tactic(auto)]
+
 ghost use Rattle.std.specs.Prelude.{◌≡◌, false, ◌||◌, ◌≤◌, eqb, length, take};
 ghost use Rattle.machine.specs.Limits.{most_places};
 ghost use Rattle.machine.specs.Filter.{hits as some_hits};

@@ -1,4 +1,6 @@
 // A bus frame's own tests, in the scope's order.
+#![tactic(auto)]
+
 ghost use Rattle.std.specs.Prelude.{◌≡◌};
 ghost use Rattle.machine.specs.Channel.{frame_code};
 

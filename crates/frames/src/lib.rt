@@ -1,4 +1,6 @@
 // How a good bus frame meets an open channel: the connection of its line, and the filters.
+#![tactic(auto)]
+
 ghost use Rattle.std.specs.Prelude.{◌≡◌, ◌++◌, ◌≤◌, length, drop};
 ghost use Rattle.machine.specs.Limits.{most_bytes};
 ghost use Rattle.machine.specs.Message.{id_bytes, id_limit};

@@ -1,4 +1,6 @@
 // The data of the frames that ISO 15765-2 sends, each into a lent buffer of eight bytes: what kind it is, then payload. Each says how many they are.
+#![tactic(auto)]
+
 ghost use Rattle.std.specs.Prelude.{◌≡◌, ℕ, ◌+◌, ◌-◌, ◌≤◌, min, List, length, drop};
 ghost use Rattle.machine.specs.Message.{Rec};
 ghost use Rattle.iso.specs.Limits.{id_size, most_payload, in_single, in_first, in_next};

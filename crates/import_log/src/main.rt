@@ -1,5 +1,7 @@
 // Imports the candump log on standard input, from the start that the argument says in seconds, and writes the recording to standard output. A line on
 // standard error says which line stopped the import and why, or that the program could not read or write.
+#![tactic(auto)]
+
 use libc::{STDERR_FILENO, STDOUT_FILENO};
 use start_time::Start;
 

@@ -1,4 +1,6 @@
 // Imports a candump log into a recording: its lines one after the other, until one stops it.
+#![tactic(auto)]
+
 ghost use Rattle.std.specs.Prelude.{◌≡◌, ◌+◌, ◌*◌, ◌≤◌, length};
 ghost use Rattle.machine.specs.Limits.{most_bytes, last_line};
 ghost use Rattle.candump.specs.Line.{second, line_in, tells};

@@ -1,4 +1,6 @@
 // A recording from standard input or a file.
+#![tactic(auto)]
+
 ghost use Rattle.std.specs.Prelude.{◌≡◌, take};
 
 // One byte more than a recording may have: it tells an overlong one, and nothing past it is read.

@@ -1,4 +1,6 @@
 // Numbers in bytes: 32-bit numbers, lowest byte first, and identifiers, highest byte first. And what is left of a number.
+#![tactic(auto)]
+
 ghost use Rattle.std.specs.Prelude.{◌≡◌, [], ◌∷◌, ◌+◌, ◌*◌, ◌-◌, ◌%◌, ◌≤◌, ◌<◌, T, length, drop};
 ghost use Rattle.codec.specs.Plain.{all, is_byte};
 ghost use Rattle.codec.specs.Word.{word, word_at};

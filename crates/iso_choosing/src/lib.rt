@@ -1,4 +1,6 @@
 // The choice of the frame that is taken next on an ISO 15765 channel: a flow frame, else the transmission that is under way, else a written message.
+#![tactic(auto)]
+
 ghost use Rattle.std.specs.Prelude.{◌≡◌};
 ghost use Rattle.std.proofs.Math.Option.{none};
 ghost use Rattle.machine.specs.Filter.{any_slot};

@@ -1,4 +1,6 @@
 // What an ISO 15765 channel holds comes to its end, on its region: a conversation is stopped, one kind of all is cleared.
+#![tactic(auto)]
+
 ghost use Rattle.std.specs.Prelude.{◌≡◌, List, [], ℕ};
 ghost use Rattle.machine.specs.Channel.{clear, stop_filter};
 ghost use Rattle.layout.specs.Promise.{gives};

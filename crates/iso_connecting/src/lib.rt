@@ -1,4 +1,6 @@
 // Connecting with ISO 15765: a fresh channel on a line, and its end.
+#![tactic(auto)]
+
 ghost use Rattle.std.specs.Prelude.{◌≡◌, List, [], ℕ, ◌<◌, T, length};
 ghost use Rattle.machine.specs.Limits.{lines};
 ghost use Rattle.machine.specs.Channel.{disconnect};

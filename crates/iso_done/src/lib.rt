@@ -1,4 +1,6 @@
 // What a message that was sent tells: TxDone, and with loopback on the message after it.
+#![tactic(auto)]
+
 ghost use Rattle.std.specs.Prelude.{◌≡◌, ℕ, ◌+◌, ◌≤◌, T, length};
 ghost use Rattle.codec.specs.Plain.{all};
 ghost use Rattle.iso.specs.Limits.{most_payload};

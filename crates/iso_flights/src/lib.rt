@@ -1,4 +1,6 @@
 // The flight of an ISO 15765 channel after its conversations changed: a frame of a transfer that is over belongs to nothing any more.
+#![tactic(auto)]
+
 ghost use Rattle.std.specs.Prelude.{◌≡◌, ℕ, T, length, set};
 ghost use Rattle.codec.specs.Code.{slot};
 ghost use Rattle.iso.specs.Iso.{ready, airborne_at};

@@ -1,4 +1,6 @@
 // A bus frame on an ISO 15765 channel: it is heard by the conversation that it concerns.
+#![tactic(auto)]
+
 ghost use Rattle.std.specs.Prelude.{◌≡◌, true, ℕ, ◌≤◌, ◌<◌, T, length, get_or, drop};
 ghost use Rattle.std.proofs.Math.Option.{none};
 ghost use Rattle.codec.specs.Code.{slot};

@@ -1,4 +1,6 @@
 // What a conversation of an ISO 15765 channel has to send goes into the flight: a flow frame, a consecutive frame, the first frame of a message.
+#![tactic(auto)]
+
 ghost use Rattle.std.specs.Prelude.{◌≡◌, ◌≤◌, ◌<◌, length, get_or};
 ghost use Rattle.std.proofs.Math.Option.{none, some};
 ghost use Rattle.machine.specs.Message.{Rec};

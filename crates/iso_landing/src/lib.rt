@@ -1,4 +1,6 @@
 // What was in flight on an ISO 15765 channel was sent: what its messages tell.
+#![tactic(auto)]
+
 ghost use Rattle.std.specs.Prelude.{◌≡◌, List, [], ℕ, ◌≤◌, length, get_or};
 ghost use Rattle.machine.specs.Channel.{sent as sent_of};
 ghost use Rattle.layout.specs.Promise.{gives};

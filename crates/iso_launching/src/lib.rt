@@ -1,4 +1,6 @@
 // What a frame that is taken does to the stores of an ISO 15765 channel: it goes into the flight, and the message that it starts is held no longer.
+#![tactic(auto)]
+
 ghost use Rattle.std.specs.Prelude.{◌≡◌, ℕ, ◌≤◌, ◌<◌, T, length, get_or, drop};
 ghost use Rattle.iso.specs.Limits.{most_payload, most_messages};
 ghost use Rattle.iso.specs.Iso.{Owner, framed};

@@ -1,4 +1,6 @@
 // Periodics, of which an ISO 15765 channel has none: the codes of their calls on the region of an open one, which stays as it is.
+#![tactic(auto)]
+
 ghost use Rattle.std.specs.Prelude.{◌≡◌, List, [], ℕ};
 ghost use Rattle.machine.specs.Channel.{start_periodic, stop_periodic};
 ghost use Rattle.layout.specs.Promise.{gives};

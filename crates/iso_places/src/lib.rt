@@ -1,5 +1,7 @@
 // Where everything lies in the region of an ISO 15765 channel, for code: the sizes and offsets of docs/LAYOUT.md and the limits of request P3, each
 // said once. That they are the numbers of the definitions is the promise of `numbers`.
+#![tactic(auto)]
+
 ghost use Rattle.std.specs.Prelude.{◌≡◌};
 ghost use Rattle.iso_places.specs.Named.{named};
 

@@ -1,4 +1,6 @@
 // The receive queue of an ISO 15765 channel: a record more, or the lost mark; the oldest gone.
+#![tactic(auto)]
+
 ghost use Rattle.std.specs.Prelude.{◌≡◌, [], ◌∷◌, ◌++◌, ℕ, ◌+◌, ◌≤◌, T, length, get_or};
 ghost use Rattle.machine.specs.Message.{id_bytes, received};
 ghost use Rattle.iso.specs.Limits.{most_heard, most_payload};

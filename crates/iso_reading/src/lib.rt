@@ -1,4 +1,6 @@
 // Reading on an ISO 15765 channel: the oldest records of the receive queue into a buffer, and the code.
+#![tactic(auto)]
+
 ghost use Rattle.std.specs.Prelude.{◌≡◌, List, ℕ};
 ghost use Rattle.machine.specs.Channel.{read as read_of};
 ghost use Rattle.layout.specs.Promise.{gives};

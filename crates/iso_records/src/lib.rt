@@ -1,4 +1,6 @@
 // Records of 536 bytes of an ISO 15765 channel as code writes them: what is received, a frame to send, a written message with its check.
+#![tactic(auto)]
+
 ghost use Rattle.std.specs.Prelude.{◌≡◌, ◌++◌, ◌≤◌, length};
 ghost use Rattle.machine.specs.Message.{id_bytes, received, size_of, clean};
 ghost use Rattle.iso.specs.Limits.{iso_data, iso_record_size, most_payload};

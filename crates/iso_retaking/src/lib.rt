@@ -1,4 +1,6 @@
 // Taking on an ISO 15765 channel where it changes nothing: the buffer is too short, or the frame in flight is given once more.
+#![tactic(auto)]
+
 ghost use Rattle.std.specs.Prelude.{◌≡◌, List, ℕ, ◌≤◌, length, get_or};
 ghost use Rattle.machine.specs.Channel.{take_next};
 ghost use Rattle.layout.specs.Promise.{gives};

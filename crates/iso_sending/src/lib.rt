@@ -1,4 +1,6 @@
 // The oldest written message of an ISO 15765 channel, if it may start: as one single frame, or with its first frame on a conversation.
+#![tactic(auto)]
+
 ghost use Rattle.std.specs.Prelude.{◌≡◌, true, ◌≤◌, ◌<◌, length, take};
 ghost use Rattle.iso.specs.Limits.{most_payload, in_single};
 ghost use Rattle.iso.specs.Iso.{starting};

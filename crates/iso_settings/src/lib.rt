@@ -1,4 +1,6 @@
 // Calls that configure an ISO 15765 channel and ask for its last code, on its region; and a code noted.
+#![tactic(auto)]
+
 ghost use Rattle.std.specs.Prelude.{◌≡◌, List, [], ℕ, ◌+◌, ◌≤◌, ◌<◌, length};
 ghost use Rattle.machine.specs.Channel.{get_parameter, set_parameter, last_error};
 ghost use Rattle.layout.specs.Promise.{gives};

@@ -1,4 +1,6 @@
 // The message of a single frame that was sent, out of the flight.
+#![tactic(auto)]
+
 ghost use Rattle.std.specs.Prelude.{◌≡◌, [], ◌∷◌, ◌≤◌, length};
 ghost use Rattle.iso.specs.Limits.{most_payload};
 ghost use Rattle.iso.specs.Iso.{un_single};

@@ -1,4 +1,6 @@
 // Starting a flow-control filter on the region of an ISO 15765 channel: its conversation lies at the first free place.
+#![tactic(auto)]
+
 ghost use Rattle.std.specs.Prelude.{◌≡◌, List, [], ℕ};
 ghost use Rattle.machine.specs.Channel.{start_flow};
 ghost use Rattle.layout.specs.Promise.{gives};

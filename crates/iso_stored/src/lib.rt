@@ -1,4 +1,6 @@
 // Are these stored records of an ISO 15765 channel? A record's fields, what may wait to be sent, be in flight or wait to be read, and stores.
+#![tactic(auto)]
+
 ghost use Rattle.std.specs.Prelude.{◌≡◌, ◌+◌, ◌*◌, length};
 ghost use Rattle.codec.specs.Code.{up_to};
 ghost use Rattle.iso.specs.Limits.{iso_record_size};

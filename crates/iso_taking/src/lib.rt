@@ -1,4 +1,6 @@
 // Taking on an ISO 15765 channel: the frame in flight once more, or the frame that is chosen next.
+#![tactic(auto)]
+
 ghost use Rattle.std.specs.Prelude.{◌≡◌, List, ℕ};
 ghost use Rattle.machine.specs.Channel.{take_next};
 ghost use Rattle.layout.specs.Promise.{gives};

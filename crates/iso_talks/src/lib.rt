@@ -1,4 +1,6 @@
 // Are these the two conversations of an ISO 15765 channel, and do they and the flight fit each other?
+#![tactic(auto)]
+
 ghost use Rattle.std.specs.Prelude.{◌≡◌, [], ◌∷◌, not, ℕ, length, drop};
 ghost use Rattle.std.proofs.Math.Option.{Option};
 ghost use Rattle.codec.specs.Code.{slot};

@@ -1,4 +1,6 @@
 // What a conversation told of a frame, in the receive queue of its channel.
+#![tactic(auto)]
+
 ghost use Rattle.std.specs.Prelude.{◌≡◌, ℕ, ◌+◌, ◌≤◌, T, length, get_or};
 ghost use Rattle.iso.specs.Limits.{most_heard, most_payload};
 ghost use Rattle.iso.specs.Iso.{Talk, arrive_iso};

@@ -1,4 +1,6 @@
 // The timers of an ISO 15765 channel's conversations, moved on in time.
+#![tactic(auto)]
+
 ghost use Rattle.std.specs.Prelude.{◌≡◌, ℕ, ◌≤◌, T, length};
 ghost use Rattle.machine.specs.Limits.{most_advance};
 ghost use Rattle.iso.specs.Iso.{turn_each, later_transfer, on_iso_advance};

@@ -1,4 +1,6 @@
 // Is this a transfer of a conversation? Its numbers by its kind, and its payload. Looked at in the conversation's place.
+#![tactic(auto)]
+
 ghost use Rattle.std.specs.Prelude.{◌≡◌, List, ℕ, ◌≤◌, length, drop};
 ghost use Rattle.iso_layout.specs.Sizes.{payload_size, transfer_in, talk_size};
 ghost use Rattle.iso_layout.specs.Region.{transfer_fits, transfer_code, payload508, step_of7, is_gap};

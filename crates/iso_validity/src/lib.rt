@@ -1,4 +1,6 @@
 // Is this the region of an ISO 15765 channel? Each function decides what one part of the layout calls valid.
+#![tactic(auto)]
+
 ghost use Rattle.std.specs.Prelude.{◌≡◌, ◌+◌, length, drop};
 ghost use Rattle.codec.specs.Plain.{member};
 ghost use Rattle.codec.specs.Code.{slot};

@@ -1,4 +1,6 @@
 // ISO 15765 in words: what a frame of a conversation is, and what a record that a channel gives to read is.
+#![tactic(auto)]
+
 ghost use Rattle.std.specs.Prelude.{◌<◌};
 
 use trace_words::{byte_at, number, sized, text};

@@ -1,4 +1,6 @@
 // Writing on an ISO 15765 channel: messages queued behind those that it holds to be sent.
+#![tactic(auto)]
+
 ghost use Rattle.std.specs.Prelude.{◌≡◌, List, [], ℕ, ◌*◌, ◌≤◌, eqb, length, get_or};
 ghost use Rattle.codec.specs.Word.{word_at};
 ghost use Rattle.machine.specs.Filter.{any_slot};

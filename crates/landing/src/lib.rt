@@ -1,4 +1,6 @@
 // Landing: what was in flight is sent, and with loopback on comes back; the connection learns of it.
+#![tactic(auto)]
+
 ghost use Rattle.std.specs.Prelude.{◌≡◌, List, [], ℕ, drop};
 ghost use Rattle.machine.specs.Channel.{opened, landed, sent as sent_of};
 ghost use Rattle.layout.specs.Memory.{open_part, region};

@@ -1,4 +1,4 @@
--- Saved set-ups and what a region can hold: a channel's set_up is good, and a good set_up can be loaded. Assumes nothing.
+-- Saved set-ups and what a region can hold: a channel's set-up is good, and a good set-up can be loaded. Assumes nothing.
 use Prim.Native.Nat.{ℕ, ◌+◌, ◌-◌, ◌≤◌, ◌<◌}
 use mathlib.Core.Path.{◌≡◌, refl, sym, ap, ◌∙◌, subst}
 use mathlib.Core.Bool.{Bool, true, false, not}

@@ -37,7 +37,7 @@ unfoldable pub micros : ℕ → ℕ
 micros b = 100 * time_of b
 
 -- ---- the state
--- what an open asks for: the fields of the set_up and of the connection set_up
+-- what an open asks for: the fields of the set-up and of the connection set-up
 pub record Asked : Type 0 where
   pub own : ℕ
   pub destination : ℕ
@@ -327,7 +327,7 @@ passing t (standing a tx l) = link_later a tx t l (out_later a.t1 t l.talk.out) 
 passing t (leaving tx e) = leaving tx (exit_later t e)
 
 -- ---- A NARROW FRAME OF THE LINE. What can't be taken apart, doesn't fit or isn't awaited is ignored
--- a reply to the set_up: its destination is the lower byte of our identifier, and a positive one has our RX-ID and application
+-- a reply to the set-up: its destination is the lower byte of our identifier, and a positive one has our RX-ID and application
 unfoldable pub replied : Asked → ℕ → Trial → Option Opening → Connection
 replied a n s none = opening a n s
 replied a n s (some (set_up d rx app)) = opening a n s

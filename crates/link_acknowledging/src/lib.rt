@@ -1,4 +1,6 @@
 // An acknowledge and a break, on the bytes of what a standing connection sends.
+#![tactic(auto)]
+
 ghost use Rattle.std.specs.Prelude.{◌≡◌, ◌≤◌, T, length, get_or};
 ghost use Rattle.link.specs.Connection.{broken};
 ghost use Rattle.link_layout.specs.Sizes.{out_in, out_size, talk_size};

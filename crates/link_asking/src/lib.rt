@@ -1,4 +1,6 @@
 // What an open asks for: whether its numbers fit the telegrams that will carry them, as given and in bytes, and the connection that opens with them.
+#![tactic(auto)]
+
 ghost use Rattle.std.specs.Prelude.{◌≡◌, [], ◌∷◌, ◌<◌, T, length, get_or};
 ghost use Rattle.link.specs.Connection.{asked_fits, waits, opening};
 ghost use Rattle.link_layout.specs.Sizes.{asked_size};
@@ -100,7 +102,7 @@ fn put_asked(
     );
 }
 
-// A connection opens, where none was: its set_up waits to be taken.
+// A connection opens, where none was: its set-up waits to be taken.
 pub fn open(
     part: &mut [u8],
     own: u32,

@@ -1,4 +1,6 @@
 // The calls on a connection: whether a message is under way, one to send, how long the complete one is, and the complete one fetched.
+#![tactic(auto)]
+
 ghost use Rattle.std.specs.Prelude.{◌≡◌, false, ◌++◌, ◌≤◌, ◌<◌, T, length, get_or, drop};
 ghost use Rattle.link.specs.Connection.{longest, new_block, idle, sends, busy as busy_of, whole, begin as begun, fetched};
 ghost use Rattle.link_layout.specs.Sizes.{out_size, hear_size};

@@ -1,4 +1,6 @@
 // Are these the bytes of a part of a connection? Each function decides what one code of the layout calls valid.
+#![tactic(auto)]
+
 ghost use Rattle.std.specs.Prelude.{◌≡◌, length};
 ghost use Rattle.codec.specs.Code.{text};
 ghost use Rattle.link.specs.Connection.{longest};

@@ -1,4 +1,6 @@
 // Data, on the bytes of what a standing connection receives.
+#![tactic(auto)]
+
 ghost use Rattle.std.specs.Prelude.{◌≡◌, ◌+◌, ◌≤◌, T, length};
 ghost use Rattle.std.proofs.Math.Option.{some};
 ghost use Rattle.codec.specs.Code.{mark_of};

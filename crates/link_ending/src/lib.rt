@@ -1,4 +1,6 @@
 // A TP2.0 connection comes to its end, on its bytes: what was to be sent is dropped, and where a channel stands a disconnect telegram waits.
+#![tactic(auto)]
+
 ghost use Rattle.std.specs.Prelude.{◌≡◌, ◌≤◌, length};
 ghost use Rattle.codec.specs.Word.{word_at};
 ghost use Rattle.link.specs.Connection.{leaving, ended};

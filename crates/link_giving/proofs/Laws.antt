@@ -86,7 +86,7 @@ module _ (m : List ℕ) (p : LinkPart m) where
       let h : get_or m 0 0 ≤ 4 = omega (arith, state_is m p, state_most (held m p)) in
       omega arith
 
-  -- a channel set_up
+  -- a channel set-up
   module _ (z : get_or m 0 0 ≡ 1) where
     abbrev pub opener : IsOpening (held m p)
     opener = is_opening (held m p) (sym (state_is m p) ∙ z)
@@ -121,7 +121,7 @@ module _ (m : List ℕ) (p : LinkPart m) where
         gave m _ r _ _ e (now_waits s _ w) (g ∙ ap (λ (a : Asked). given a.own (opening_bytes (set_up_of a))) (opening_asked_part m p who n s e).got)
         (byte_stored (opening_trials_part m p who n s e) 1 1 (n, flies) (omega arith) (trial_taken n s w))
 
-  -- a connection set_up
+  -- a connection set-up
   module _ (z : get_or m 0 0 ≡ 2) where
     abbrev pub joiner : IsConnecting (held m p)
     joiner = is_connecting (held m p) (sym (state_is m p) ∙ z)

@@ -1,5 +1,7 @@
 // What a TP2.0 connection gives to be sent, on the bytes of its part of a region: an opening telegram, a telegram of the standing connection, a
 // disconnect. Its bytes are then those with that telegram in flight.
+#![tactic(auto)]
+
 ghost use Rattle.std.specs.Prelude.{◌≡◌, get_or};
 ghost use Rattle.link_layout.specs.Turned.{LinkPart};
 ghost use Rattle.link_telegrams.specs.Given.{Gave};
@@ -25,7 +27,7 @@ const DUE: u8 = 0;
 
 const GOES: u8 = 2;
 
-// The channel set_up, where it waits.
+// The channel set-up, where it waits.
 fn set_up(part: &mut [u8]) -> Given
     requires { LinkPart part.old × (get_or part.old 0 0 ≡ 1) }
     ensures { Gave part.old result part.new }
@@ -38,7 +40,7 @@ fn set_up(part: &mut [u8]) -> Given
     r
 }
 
-// The connection set_up, where it waits.
+// The connection set-up, where it waits.
 fn connect(part: &mut [u8]) -> Given
     requires { LinkPart part.old × (get_or part.old 0 0 ≡ 2) }
     ensures { Gave part.old result part.new }

@@ -1,4 +1,6 @@
 // A narrow frame of the line reaches a TP2.0 connection, whatever its state.
+#![tactic(auto)]
+
 ghost use Rattle.std.specs.Prelude.{◌≡◌, get_or};
 ghost use Rattle.link.specs.Connection.{hears as hearing};
 ghost use Rattle.link_layout.specs.Connection.{connection_part};

@@ -1,4 +1,4 @@
--- What a connection set_up or acknowledge means while connecting. Assumes nothing.
+-- What a connection set-up or acknowledge means while connecting. Assumes nothing.
 use mathlib.Core.Path.{◌≡◌, ap}
 use Prim.Native.Nat.{ℕ}
 use mathlib.Core.Bool.{Bool, true, false}

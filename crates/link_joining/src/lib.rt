@@ -1,4 +1,6 @@
-// What a frame does to a TP2.0 connection that connects: the acknowledge of its connection set_up.
+// What a frame does to a TP2.0 connection that connects: the acknowledge of its connection set-up.
+#![tactic(auto)]
+
 ghost use Rattle.std.specs.Prelude.{◌≡◌, List, ℕ, min, length, get_or};
 ghost use Rattle.std.proofs.Math.Option.{some};
 ghost use Rattle.telegram.specs.Telegram.{read_channel};
@@ -21,7 +23,7 @@ const STANDING: u8 = 3;
 // T_CTa in microseconds.
 const TEST: u32 = 1000000;
 
-// What a telegram means to a connection set_up: nothing; a connection with this block size and T3; none.
+// What a telegram means to a connection set-up: nothing; a connection with this block size and T3; none.
 #[derive(Drop)]
 pub enum Turn {
     Nothing,
@@ -29,7 +31,7 @@ pub enum Turn {
     Over,
 }
 
-// What a telegram on the channel means to the connection set_up.
+// What a telegram on the channel means to the connection set-up.
 fn joining(t: OnChannel) -> Turn
     ensures { (a : Asked) (tx n : ℕ) (s : Trial) (bytes : List ℕ) → after_join result a tx n s ≡ joined a tx n s (some (channel_said t bytes)) }
 {
@@ -59,7 +61,7 @@ fn joining(t: OnChannel) -> Turn
     }
 }
 
-// What a frame under the RX-ID means to the connection set_up.
+// What a frame under the RX-ID means to the connection set-up.
 fn join_in(bytes: &[u8]) -> Turn
     ensures { (a : Asked) (tx n : ℕ) (s : Trial) → after_join result a tx n s ≡ joined a tx n s (read_channel bytes.now) }
 {

@@ -1,4 +1,6 @@
 // A TP2.0 connection when the frame in flight that belongs to it was sent, on the bytes of its part of a region.
+#![tactic(auto)]
+
 ghost use Rattle.std.specs.Prelude.{◌≡◌, get_or};
 ghost use Rattle.link.specs.Connection.{was_sent};
 ghost use Rattle.link_layout.specs.Connection.{connection_part};

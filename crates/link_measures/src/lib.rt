@@ -1,4 +1,6 @@
 // What is measured in a TP2.0 connection: the microseconds of a time byte, the telegrams of a message and of a block.
+#![tactic(auto)]
+
 ghost use Rattle.std.specs.Prelude.{◌≡◌, List, ℕ, ◌≤◌, length};
 ghost use Rattle.link.specs.Connection.{longest, micros as micros_of, telegrams as telegrams_of, block_of};
 

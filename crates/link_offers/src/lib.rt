@@ -1,5 +1,7 @@
 // What a standing TP2.0 connection gives to be sent where nothing of it is in flight: a connection acknowledge, a test, an acknowledge or data. Its
 // bytes are then those with that telegram in flight.
+#![tactic(auto)]
+
 ghost use Rattle.std.specs.Prelude.{◌≡◌, ◌+◌, get_or};
 ghost use Rattle.link_layout.specs.Sizes.{care_at, tests_in, hear_at, ack_in};
 ghost use Rattle.link_layout.specs.Turned.{LinkPart};

@@ -1,5 +1,7 @@
 // Where everything lies in the bytes of a TP2.0 connection, for code: the sizes and offsets of docs/LAYOUT.md and the limits of request P5, each said
 // once. That they are the numbers of the definitions is the promise of `numbers`.
+#![tactic(auto)]
+
 ghost use Rattle.std.specs.Prelude.{◌≡◌};
 ghost use Rattle.link_places.specs.Named.{named};
 

@@ -1,4 +1,4 @@
--- What a reply means to the set_up, by its fields. Assumes nothing.
+-- What a reply means to the set-up, by its fields. Assumes nothing.
 use mathlib.Core.Path.{◌≡◌, sym, ap, ap₂, ◌∙◌}
 use Prim.Native.Nat.{ℕ, ◌%◌}
 use mathlib.Core.Bool.{Bool, ◌&&◌}

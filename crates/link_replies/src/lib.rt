@@ -1,4 +1,6 @@
-// What a frame does to a TP2.0 connection that opens: the reply to its set_up.
+// What a frame does to a TP2.0 connection that opens: the reply to its set-up.
+#![tactic(auto)]
+
 ghost use Rattle.std.specs.Prelude.{◌≡◌, List, ℕ, get_or};
 ghost use Rattle.std.proofs.Math.Option.{some};
 ghost use Rattle.telegram.specs.Telegram.{read_opening};
@@ -19,7 +21,7 @@ const CONNECTING: u8 = 2;
 // A reply comes under this identifier plus the destination.
 const REPLIES: u32 = 0x200;
 
-// What a reply means to the set_up: nothing; a channel with this TX-ID; none.
+// What a reply means to the set-up: nothing; a channel with this TX-ID; none.
 #[derive(Drop)]
 pub enum Means {
     Nothing,
@@ -27,7 +29,7 @@ pub enum Means {
     Negative,
 }
 
-// What an opening telegram means to a set_up with this identifier's lower byte, RX-ID and application.
+// What an opening telegram means to a set-up with this identifier's lower byte, RX-ID and application.
 fn meaning(o: Opening, own: u8, rx: u32, application: u8) -> Means
     ensures { (a : Asked) (n : ℕ) (s : Trial) (bytes : List ℕ) → Asks a own rx application → after_reply result a n s ≡ replied a n s (some (opening_said o bytes)) }
 {
@@ -60,7 +62,7 @@ fn meaning(o: Opening, own: u8, rx: u32, application: u8) -> Means
     }
 }
 
-// What a frame under the identifier of replies means to such a set_up.
+// What a frame under the identifier of replies means to such a set-up.
 fn reply_in(id: u32, bytes: &[u8], own: u8, rx: u32, application: u8) -> Means
     ensures { (a : Asked) (n : ℕ) (s : Trial) → Asks a own rx application → after_reply result a n s ≡ replied a n s (read_opening id bytes.now) }
 {
@@ -75,7 +77,7 @@ fn reply_in(id: u32, bytes: &[u8], own: u8, rx: u32, application: u8) -> Means
     }
 }
 
-// The channel is there: the connection set_up waits.
+// The channel is there: the connection set-up waits.
 fn connect(part: &mut [u8], tx: u32)
     requires { LinkPart part.old }
     ensures { (a : Asked) (n : ℕ) (s : Trial) → connection_part.get part.old ≡ opens a n s → part.new ≡ connection_part.put (connects a tx 0 waits) }

@@ -1,4 +1,6 @@
 // Is this a standing connection, and do its parts fit each other? On its 1,062 bytes.
+#![tactic(auto)]
+
 ghost use Rattle.std.specs.Prelude.{◌≡◌, T, length};
 ghost use Rattle.link.specs.Connection.{Asked};
 ghost use Rattle.link_layout.specs.Sizes.{out_size, standing_size};

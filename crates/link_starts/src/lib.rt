@@ -1,5 +1,7 @@
 // What a sent starts in the bytes of a part of a TP2.0 connection: T_E of an opening telegram, T3 before a disconnect telegram, T_CTa of a test, T1 of a
 // block's last telegram.
+#![tactic(auto)]
+
 ghost use Rattle.std.specs.Prelude.{◌≡◌, ◌∷◌, T, length};
 ghost use Rattle.codec.specs.Word.{word};
 ghost use Rattle.link.specs.Connection.{data_sent};

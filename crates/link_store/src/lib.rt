@@ -1,4 +1,6 @@
 // The bytes of a message in a connection's part: how many, a number, then they, then zeros.
+#![tactic(auto)]
+
 ghost use Rattle.std.specs.Prelude.{◌≡◌, [], ◌++◌, ◌+◌, ◌≤◌, T, length, drop};
 ghost use Rattle.codec.specs.Code.{text};
 ghost use Rattle.link.specs.Connection.{longest};

@@ -1,4 +1,6 @@
 // Telegrams that a TP2.0 connection gives to be sent, each by value with its identifier; those that carry what an open asked for.
+#![tactic(auto)]
+
 ghost use Rattle.std.specs.Prelude.{◌≡◌, true, ◌+◌, ◌≤◌, min};
 ghost use Rattle.telegram.specs.Telegram.{set_up, opening_fits, opening_bytes, fits, on_wire};
 ghost use Rattle.telegram_types.specs.Face.{channel_said};
@@ -57,7 +59,7 @@ pub fn on_channel(id: u32, t: OnChannel, carried: &[u8]) -> Given
     }
 }
 
-// A channel set_up.
+// A channel set-up.
 fn set_up(id: u32, destination: u8, rx_id: u16, application: u8) -> Given
     requires { opening_fits id (set_up destination rx_id application) ≡ true }
     ensures { result ≡ given_as id (opening_bytes (set_up destination rx_id application)) }
@@ -77,7 +79,7 @@ fn set_up(id: u32, destination: u8, rx_id: u16, application: u8) -> Given
     }
 }
 
-// The channel set_up of what was asked for.
+// The channel set-up of what was asked for.
 pub fn opening(s: &[u8]) -> Given
     requires { AskedPart s.now }
     ensures { result ≡ given_as (asked.get s.now).own (opening_bytes (set_up_of (asked.get s.now))) }
@@ -116,7 +118,7 @@ pub fn data(s: &[u8], id: u32, size: u32, sn: u8) -> Given
     on_channel(id, t, &s[first..end])
 }
 
-// Our connection set_up or acknowledge by what was asked for.
+// Our connection set-up or acknowledge by what was asked for.
 pub fn connection(s: &[u8], id: u32, ack: bool) -> Given
     requires { AskedPart s.now }
     ensures { result ≡ given_as id (on_wire (ours ack (asked.get s.now))) }

@@ -78,7 +78,7 @@ module _ (m : List ℕ) (p : LinkPart m) (s : get_or m 0 0 ≡ 3) where
   unfolding told
   ignored = sym same ∙ heeded none
 
-  -- a connection set_up, which is passed over, or an acknowledge of our test
+  -- a connection set-up, which is passed over, or an acknowledge of our test
   module _ (ack : Bool) (bs t1 t2 t3 t4 : ℕ) where
     abbrev Sets : Bool → List ℕ
     Sets x = connection_part.put (heeds (some (connection x bs t1 t2 t3 t4)) (connection_part.get m))

@@ -1,4 +1,6 @@
 // A telegram reaches a TP2.0 connection that stands, on its bytes.
+#![tactic(auto)]
+
 ghost use Rattle.std.specs.Prelude.{◌≡◌, ◌≤◌, T, length, get_or};
 ghost use Rattle.std.proofs.Math.Option.{some};
 ghost use Rattle.telegram.specs.Telegram.{data_telegram, acknowledge as acknowledge_of};

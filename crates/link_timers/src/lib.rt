@@ -1,4 +1,6 @@
 // The parts of a TP2.0 connection some microseconds later, each on its bytes: a timer is over where the time reaches what is left of it.
+#![tactic(auto)]
+
 ghost use Rattle.std.specs.Prelude.{◌≡◌, ◌-◌, ◌≤◌, T, length, get_or};
 ghost use Rattle.codec.specs.Word.{word, word_at};
 ghost use Rattle.link.specs.Connection.{out_later, care_later, wire_later, exit_later};

@@ -1,4 +1,6 @@
 // A TP2.0 connection some microseconds later, on the bytes of its part of a region.
+#![tactic(auto)]
+
 ghost use Rattle.std.specs.Prelude.{◌≡◌, get_or};
 ghost use Rattle.link.specs.Connection.{passing};
 ghost use Rattle.link_layout.specs.Connection.{connection_part};

@@ -1,4 +1,6 @@
 // Is this the part of a connection? Its state says which parts are there; the others are zeros.
+#![tactic(auto)]
+
 ghost use Rattle.std.specs.Prelude.{◌≡◌, length};
 ghost use Rattle.link_layout.specs.Sizes.{link_size};
 ghost use Rattle.link_layout.specs.Connection.{connection_part};

@@ -1,4 +1,6 @@
 // The four calls on a TP2.0 connection, on the region of the channel whose line it is on: it is opened, sends and receives messages, and is ended.
+#![tactic(auto)]
+
 ghost use Rattle.std.specs.Prelude.{◌≡◌, false, List, [], ℕ, drop};
 ghost use Rattle.machine.specs.Message.{takes};
 ghost use Rattle.machine.specs.Channel.{link_open, link_send, link_receive, link_end};

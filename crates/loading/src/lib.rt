@@ -1,4 +1,6 @@
-// Load: a channel's set_up out of a store.
+// Load: a channel's set-up out of a store.
+#![tactic(auto)]
+
 ghost use Rattle.std.specs.Prelude.{◌≡◌, [], ℕ};
 ghost use Rattle.machine.specs.Channel.{load_setup};
 ghost use Rattle.layout.specs.Promise.{gives, Opened, call_outcome};

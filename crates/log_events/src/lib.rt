@@ -1,4 +1,6 @@
 // Writes the events of a line into a recording, for callers that know that there is room, and says how many bytes they take.
+#![tactic(auto)]
+
 ghost use Rattle.std.specs.Prelude.{◌≡◌, ◌++◌, ◌+◌, ◌/◌, ◌≤◌, length};
 ghost use Rattle.number.specs.Number.{bytes_of};
 ghost use Rattle.answers.specs.Put.{Put};

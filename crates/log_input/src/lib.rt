@@ -1,4 +1,6 @@
 // How much of a log is read: all of it, or, where it is longer than the room for one, the lines that are whole in that room.
+#![tactic(auto)]
+
 ghost use Rattle.std.specs.Prelude.{◌≡◌, ◌≤◌, length};
 ghost use Rattle.log_input.specs.Cut.{longest_log, whole_of, cut_of};
 

@@ -1,4 +1,6 @@
 // Reads a line of a candump log: its time, its name, its identifier and its data. A time past the far one is not told apart from others as far.
+#![tactic(auto)]
+
 ghost use Rattle.std.specs.Prelude.{◌≡◌, ◌≤◌, length, drop};
 ghost use Rattle.candump.specs.Line.{bus_in, both_in, few_in};
 ghost use Rattle.log_reader.specs.Reading.{TimeReads, identified, data_good, bus_of, FrameReads, Reads};

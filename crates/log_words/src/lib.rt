@@ -1,4 +1,6 @@
 // What the programs of logs are told and say: the start that they are given, and what stopped an import, in words on a descriptor.
+#![tactic(auto)]
+
 use start_time::Start;
 
 // The start that the program's only argument says; where it says none, why.

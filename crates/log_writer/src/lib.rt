@@ -1,4 +1,6 @@
 // Writes a line of a candump log, for callers that know that there is room: each function gives the place after what it wrote.
+#![tactic(auto)]
+
 ghost use Rattle.std.specs.Prelude.{◌≡◌, List, [], ◌∷◌, ◌++◌, ◌+◌, ◌≤◌, ◌<◌, length};
 ghost use Rattle.machine.specs.Limits.{last_line};
 ghost use Rattle.text.specs.Text.{digit, fixed, decimal};

@@ -1,4 +1,6 @@
 // The bytes of one filter in a map of 2,048 bits. A map is eight bands of 32 bytes: a band for each value of the upper three bits of an identifier.
+#![tactic(auto)]
+
 ghost use Rattle.std.specs.Prelude.{◌≡◌, ◌≤◌, length};
 ghost use Rattle.codec.specs.Code.{mark_of};
 ghost use Rattle.derived.specs.Derived.{same_bytes};

@@ -1,4 +1,6 @@
 // The two maps of a channel's narrow filters, pass first: made from the filters, compared with bytes, and asked.
+#![tactic(auto)]
+
 ghost use Rattle.std.specs.Prelude.{◌≡◌, ℕ, ◌<◌, length, take};
 ghost use Rattle.derived.specs.Derived.{same_bytes};
 ghost use Rattle.map_rule.specs.Map.{map_size, maps_size, narrow_ids, map_bytes, bit_in};

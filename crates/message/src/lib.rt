@@ -1,4 +1,6 @@
 // A message to send: its check, and its clean record; on any channel, and on one of raw CAN.
+#![tactic(auto)]
+
 ghost use Rattle.std.specs.Prelude.{◌≡◌, ◌+◌, ◌-◌, ◌≤◌, length};
 ghost use Rattle.machine.specs.Limits.{record_size, least_data, most_data, data_in};
 ghost use Rattle.machine.specs.Message.{message_code, wide_of, size_of, clean};

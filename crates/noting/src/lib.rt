@@ -1,4 +1,6 @@
 // What went wrong last on a channel: the codes that it can keep, noting one, and what it keeps.
+#![tactic(auto)]
+
 ghost use Rattle.std.specs.Prelude.{◌≡◌, List, [], ℕ, ◌+◌, ◌≤◌, ◌<◌, length};
 ghost use Rattle.codec.specs.Plain.{member};
 ghost use Rattle.machine.specs.Codes.{call_codes};

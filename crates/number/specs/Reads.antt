@@ -1,4 +1,4 @@
--- Reading parts of a list of bytes, one behind the other: of an event, of a saved set_up. Assumes nothing.
+-- Reading parts of a list of bytes, one behind the other: of an event, of a saved set-up. Assumes nothing.
 use Rattle.std.specs.Prelude.{ℕ, ◌+◌, Bool, List, leb, length, take, drop}
 use Rattle.std.proofs.Math.Option.{Option, none, some, map, bind}
 use Rattle.codec.specs.Plain.{if◌then◌else◌}

@@ -1,4 +1,6 @@
 // The arguments of the events that have numbers alone.
+#![tactic(auto)]
+
 ghost use Rattle.std.specs.Prelude.{◌⊎◌, ◌≡◌};
 ghost use Rattle.events.specs.Found.{ReadsArguments};
 

@@ -1,4 +1,6 @@
 // The telegram that the TP2.0 connection of a channel gives to be sent, as a record of 36 bytes.
+#![tactic(auto)]
+
 ghost use Rattle.std.specs.Prelude.{◌≡◌, length, drop};
 ghost use Rattle.machine.specs.Limits.{record_size};
 ghost use Rattle.link_layout.specs.Turned.{LinkPart};

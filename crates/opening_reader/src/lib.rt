@@ -1,4 +1,6 @@
 // Opening telegrams out of bytes: one function a kind; the second byte decides.
+#![tactic(auto)]
+
 ghost use Rattle.std.specs.Prelude.{◌≡◌, ◌+◌, ◌<◌, length, get_or};
 ghost use Rattle.std.proofs.Math.Option.{map};
 ghost use Rattle.telegram.specs.Telegram.{opening_of, read_opening, id_at, opening as opens};
@@ -16,7 +18,7 @@ fn id_at(bytes: &[u8], at: usize) -> u16
     bytes[at] as u16 + 256 * (bytes[at + 1] as u16)
 }
 
-// A set_up: its TX-ID isn't given.
+// A set-up: its TX-ID isn't given.
 fn set_up(identifier: u32, bytes: &[u8]) -> Answer
     requires { (length bytes.now ≡ 7) × (get_or bytes.now 1 0 ≡ 0xC0) }
     ensures { told result ≡ answering (map (opens identifier) (opening_of bytes.now)) }

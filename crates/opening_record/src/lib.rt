@@ -1,4 +1,6 @@
 // The opening telegram that a record says: the fields that its kind has, compared as whole numbers before they are narrowed.
+#![tactic(auto)]
+
 ghost use Rattle.std.specs.Prelude.{◌≡◌, ◌%◌, ◌≤◌, length};
 ghost use Rattle.std.proofs.Math.Option.{some};
 ghost use Rattle.telegram_types.specs.Face.{taken_said};
@@ -15,7 +17,7 @@ fn lower(x: u32) -> u16
     (x % 65536) as u16
 }
 
-// A set_up.
+// A set-up.
 fn set_up(bytes: &[u8]) -> Taken
     requires { 32 ≤ length bytes.now }
     ensures { kept (taken_said result (carried_in bytes.now)) ≡ kept (some (set_up_in bytes.now)) }

@@ -1,4 +1,6 @@
 // Opening telegrams into bytes: the fields are looked at first, so that a refusal leaves the buffer as it was.
+#![tactic(auto)]
+
 ghost use Rattle.std.specs.Prelude.{◌≡◌, ◌≤◌, length};
 ghost use Rattle.telegram.specs.Telegram.{set_up, positive as positive_reply, negative as negative_reply, fields_fit, opening_fits, opening_bytes};
 ghost use Rattle.telegram_types.specs.Face.{wrote, written_if, opening_said};
@@ -6,7 +8,7 @@ ghost use Rattle.telegram_types.specs.Face.{wrote, written_if, opening_said};
 use telegram_bytes::{all, both, refused};
 use telegram_types::{Opening, Written};
 
-// A set_up: its TX-ID isn't given.
+// A set-up: its TX-ID isn't given.
 fn set_up(destination: u8, rx_id: u16, application: u8, buf: &mut [u8]) -> Written
     requires { 8 ≤ length buf.old }
     ensures { wrote result buf.new ≡ written_if (fields_fit (set_up destination rx_id application)) (opening_bytes (set_up destination rx_id application)) buf.old }

@@ -1,4 +1,6 @@
 // Every call on a memory of the whole box that is known to be valid: for callers that own it since power-on. Same promises as the public calls.
+#![tactic(auto)]
+
 pub use box_channels::{clear, disconnect, get, set};
 pub use box_connecting::connect;
 pub use box_deciding::decide;

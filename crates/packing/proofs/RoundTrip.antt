@@ -83,7 +83,7 @@ bounded n k h e = let l = leb-true n k e in omega arith
 bit_bounded : (b : Bool) → bit_value b < 2 ^ 32
 bit_bounded b = bounded (bit_value b) 1 (omega arith) (flag_small b)
 
--- the kinds of a connection set_up and acknowledge are those of neither before them
+-- the kinds of a connection set-up and acknowledge are those of neither before them
 either_kind : (ack : Bool) (w x y z : Option AnyTelegram) (c : Bool → AnyTelegram)
     → (let k : ℕ = 0xA0 + bit_value ack in
     if leb 0xC0 k then w else if eqb k 0x00 then x else if eqb k 0x90 then y else if eqb k 0xA0 || eqb k 0xA1 then some (c (eqb k 0xA1)) else z)

@@ -1,4 +1,6 @@
 // Telegrams as records of 32 bytes, as they cross to C.
+#![tactic(auto)]
+
 ghost use Rattle.std.specs.Prelude.{◌≡◌};
 ghost use Rattle.telegram.specs.Telegram.{read_any};
 ghost use Rattle.telegram_record.specs.Crossing.{gave, reading};

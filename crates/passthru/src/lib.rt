@@ -1,4 +1,6 @@
 // The box as C calls it: numbers, byte slices and slices of two-number structs only. A number that goes with a code is stored through a pointer, always: 0 where there is none.
+#![tactic(auto)]
+
 ghost use Rattle.std.specs.Prelude.{◌≡◌, [], not, eqb};
 ghost use Rattle.machine.specs.Codes.{two_rates};
 ghost use Rattle.machine.specs.Channel.{disconnect, clear, write, read, take_next, sent, start_filter, start_flow, stop_filter, start_periodic, stop_periodic, get_parameter, set_parameter, last_error, get_list, set_list, flat, link_open, link_send, link_receive, link_end, decide, save_setup, load_setup};
@@ -271,7 +273,7 @@ pub extern "C" fn trawl_decide(
     decided.code
 }
 
-// Saves a raw channel's set_up as a store, over the start of a buffer; its length.
+// Saves a raw channel's set-up as a store, over the start of a buffer; its length.
 #[unsafe(no_mangle)]
 pub extern "C" fn trawl_save(
     mem: &mut [u8],

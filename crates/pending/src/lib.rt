@@ -1,4 +1,6 @@
 // Which of a channel's periodics is sent next: the first that is pending, and that it no longer is.
+#![tactic(auto)]
+
 ghost use Rattle.std.specs.Prelude.{◌≡◌, ℕ, ◌<◌};
 ghost use Rattle.machine.specs.Limits.{most_places};
 ghost use Rattle.layout.specs.Memory.{periodics};

@@ -1,4 +1,6 @@
 // The periodics of a channel, started and stopped.
+#![tactic(auto)]
+
 ghost use Rattle.std.specs.Prelude.{◌≡◌, List, [], ℕ};
 ghost use Rattle.machine.specs.Channel.{start_periodic, stop_periodic};
 ghost use Rattle.layout.specs.Promise.{Opened, Speaker, gives, call_outcome};

@@ -1,5 +1,7 @@
 // Where everything lies in the device memory, for code: the sizes and offsets of docs/LAYOUT.md and the limits of the scope, each said once.
 // That they are the numbers of the definitions is the promise of `numbers`.
+#![tactic(auto)]
+
 ghost use Rattle.std.specs.Prelude.{◌≡◌};
 ghost use Rattle.places.specs.Named.{named};
 

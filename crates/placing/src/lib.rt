@@ -1,4 +1,6 @@
 // A periodic put at a place of a channel, and a place emptied.
+#![tactic(auto)]
+
 ghost use Rattle.std.specs.Prelude.{◌≡◌, ℕ, ◌<◌, length, set};
 ghost use Rattle.std.proofs.Math.Option.{none, some};
 ghost use Rattle.machine.specs.Limits.{most_places};

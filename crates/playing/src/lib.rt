@@ -1,4 +1,6 @@
 // Plays one event of a recording on a memory of the whole box that is known to be valid, and writes its answer.
+#![tactic(auto)]
+
 ghost use Rattle.std.specs.Prelude.{ℕ, ◌+◌, ◌*◌, ◌≤◌, List, T, length};
 ghost use Rattle.codec.specs.Plain.{zeros};
 ghost use Rattle.recording_sizes.specs.Sizes.{most, record_on, event_room};

@@ -1,4 +1,6 @@
 // The receive queue of an open channel: a record more, or the lost mark; the oldest gone.
+#![tactic(auto)]
+
 ghost use Rattle.std.specs.Prelude.{◌≡◌, ◌++◌, ℕ, ◌≤◌, T, length, get_or};
 ghost use Rattle.machine.specs.Limits.{most_bytes, most_to_read};
 ghost use Rattle.machine.specs.Message.{id_bytes, received};

@@ -1,4 +1,6 @@
 // The reader struct: a recording and a place in it, few thin functions over it, and the number at a place for callers that hold none.
+#![tactic(auto)]
+
 ghost use Rattle.std.specs.Prelude.{◌≡◌};
 ghost use Rattle.number.specs.Place.{number_at};
 ghost use Rattle.reader.specs.Reader.{reader_at, next_number, moved_to, at_end};

@@ -1,4 +1,6 @@
 // Reading: the oldest records of the receive queue into a buffer, and the code.
+#![tactic(auto)]
+
 ghost use Rattle.std.specs.Prelude.{◌≡◌, List, ℕ, min, eqb};
 ghost use Rattle.machine.specs.Channel.{read_code};
 ghost use Rattle.machine.specs.Channel.{read as read_of};

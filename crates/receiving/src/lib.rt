@@ -1,4 +1,6 @@
 // What an open channel receives: a frame that was let in, and the echo of a record that was sent.
+#![tactic(auto)]
+
 ghost use Rattle.std.specs.Prelude.{◌≡◌, ◌++◌, ◌+◌, ◌≤◌, length};
 ghost use Rattle.machine.specs.Limits.{most_bytes};
 ghost use Rattle.machine.specs.Message.{width_flag, id_bytes, received};

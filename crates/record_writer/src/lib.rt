@@ -1,4 +1,6 @@
 // The bytes of the telegram that a record says.
+#![tactic(auto)]
+
 ghost use Rattle.std.specs.Prelude.{◌≡◌, min, ◌≤◌, length};
 ghost use Rattle.telegram_types.specs.Face.{taken_said};
 ghost use Rattle.telegram_record.specs.Record.{kept, carried_in, telegram_in};

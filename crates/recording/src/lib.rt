@@ -1,4 +1,6 @@
 // Replays recordings in pieces: each event is read, played on a lent device memory, and answered in bytes.
+#![tactic(auto)]
+
 ghost use Rattle.std.specs.Prelude.{◌≡◌, ◌+◌, ◌≤◌, T, length};
 ghost use Rattle.recording_sizes.specs.Sizes.{event_room};
 ghost use Rattle.memory.specs.Memory.{valid, load};

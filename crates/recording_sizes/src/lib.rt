@@ -1,4 +1,6 @@
 // The sizes of recordings, their records and their answers, each said once.
+#![tactic(auto)]
+
 ghost use Rattle.std.specs.Prelude.{◌≡◌};
 ghost use Rattle.recording_sizes.specs.Sizes.{on_iso, record_on};
 

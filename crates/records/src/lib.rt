@@ -1,4 +1,6 @@
 // Records as code writes them, of any size: six numbers, then data and zeros; and the record of 36 bytes of a frame.
+#![tactic(auto)]
+
 ghost use Rattle.std.specs.Prelude.{◌≡◌, ◌++◌, ◌+◌, ◌≤◌, length};
 ghost use Rattle.machine.specs.Limits.{record_size, data_in, most_bytes};
 ghost use Rattle.machine.specs.Message.{id_bytes, received};

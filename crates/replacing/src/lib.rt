@@ -1,4 +1,6 @@
 // The parts of a channel's region replaced by those of a store that is known to be good; and where the store's body stands.
+#![tactic(auto)]
+
 ghost use Rattle.std.specs.Prelude.{map, ◌≡◌, length};
 ghost use Rattle.machine.specs.Store.{slots_in};
 ghost use Rattle.machine.specs.Channel.{filter_in, periodic_in, starts_anew};

@@ -1,5 +1,7 @@
 // Replays the recording on standard input, from power-on, and writes the answers to standard output. A line on standard error says where and
 // why the recording is bad, or that the program could not read or write.
+#![tactic(auto)]
+
 ghost use Rattle.std.specs.Prelude.{◌≤◌, T, length};
 ghost use Rattle.recording_sizes.specs.Sizes.{event_room};
 ghost use Rattle.memory.specs.Memory.{valid};

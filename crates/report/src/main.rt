@@ -1,5 +1,7 @@
 // Prints the shift report of the recording on standard input: a line each for channels 1 to 4, the channel and its eleven numbers in decimal. A line
 // on standard error says where and why the recording is bad, or that the program could not read or write.
+#![tactic(auto)]
+
 ghost use Rattle.std.specs.Prelude.{◌≡◌, ◌<◌, length};
 ghost use Rattle.machine.specs.Limits.{lines};
 ghost use Rattle.shift_places.specs.Places.{of_report};

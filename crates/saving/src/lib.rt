@@ -1,4 +1,6 @@
 // Saving: the store of a channel, written into a lent buffer part by part.
+#![tactic(auto)]
+
 ghost use Rattle.std.specs.Prelude.{◌≡◌, List, ℕ, ◌+◌, ◌≤◌, ◌<◌, length};
 ghost use Rattle.machine.specs.Limits.{most_places, most_data, record_size};
 ghost use Rattle.machine.specs.Message.{shown};

@@ -1,4 +1,6 @@
 // Where the region of a channel is, in a memory of the whole box that is known to be valid, and whether it is a listener's.
+#![tactic(auto)]
+
 ghost use Rattle.std.specs.Prelude.{◌+◌, ◌≤◌, ◌-◌, ◌≡◌, T, length};
 ghost use borrow.Rule.Slice.PartMut.{mid_of};
 ghost use Rattle.codec.specs.Word.{word_at};

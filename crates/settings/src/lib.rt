@@ -1,4 +1,6 @@
 // Calls that configure and clear, on the region of one channel.
+#![tactic(auto)]
+
 ghost use Rattle.std.specs.Prelude.{◌≡◌, List, [], ℕ};
 ghost use Rattle.machine.specs.Channel.{clear, get_parameter, set_parameter};
 ghost use Rattle.layout.specs.Promise.{gives, Opened, call_outcome};

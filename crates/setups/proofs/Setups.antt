@@ -203,7 +203,7 @@ module _ (rates : List ℕ) where
   pub stored_whole : (st : Setup) → GoodSetup rates st → read_whole (store_in rates) (store_bytes st) ≡ some st
   stored_whole st g = whole_back st (store_bytes st) (new_back st g)
 
-  -- version 1, of a set_up of flags 0: by the old reader and by the new
+  -- version 1, of a set-up of flags 0: by the old reader and by the new
   pub old_back : (st : Setup) → GoodSetup rates st → st.flags ≡ 0 → Back (old_in rates) st (old_bytes st)
   unfolding old_in old_bytes
   old_back st g z =

@@ -50,7 +50,7 @@ pub record GoodPeriodic (flags : ℕ) (p : Rec × ℕ) : Type 0 where
   pub low : 5 ≤ p.1
   pub high : p.1 ≤ 65535
 
--- a set_up whose rate is one that set takes
+-- a set-up whose rate is one that set takes
 pub record GoodSetup (rates : List ℕ) (s : Setup) : Type 0 where
   pub flags_small : s.flags ≤ largest
   pub ten_filters : length s.filters ≡ 10

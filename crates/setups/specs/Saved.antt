@@ -11,7 +11,7 @@ use Rattle.setups.specs.Good.{GoodSetup}
 unfoldable pub old_in : List ℕ → Reads Setup
 old_in rates = do version ← only (eqb 1) number; body_in rates 0
 
--- WHAT READS AS A SET-UP: its bytes of version 2, or of version 1 where its flags are 0; and the set_up is good
+-- WHAT READS AS A SET-UP: its bytes of version 2, or of version 1 where its flags are 0; and the set-up is good
 pub record Exact (rates bs : List ℕ) (s : Setup) : Type 0 where
   pub bytes : (bs ≡ store_bytes s) ⊎ ((bs ≡ old_bytes s) × (s.flags ≡ 0))
   pub good : GoodSetup rates s
@@ -21,7 +21,7 @@ unfoldable pub takes_store : ℕ → Option Setup → Bool
 takes_store flags none = false
 takes_store flags (some s) = eqb s.flags flags
 
--- A LOAD THAT IS DONE: the whole list reads as a set_up of the channel's flags
+-- A LOAD THAT IS DONE: the whole list reads as a set-up of the channel's flags
 pub record Done (rates : List ℕ) (o : Open) (bs : List ℕ) : Type 0 where
   pub setup : Setup
   pub reads : read_whole (store_in rates) bs ≡ some setup

@@ -1,4 +1,6 @@
 // The 44 numbers of a shift report, eleven a channel: more is added to one of them.
+#![tactic(auto)]
+
 ghost use Rattle.std.specs.Prelude.{◌≡◌, ◌+◌, ◌*◌, ◌<◌, length, get_or};
 ghost use Rattle.machine.specs.Limits.{lines};
 ghost use Rattle.shift_places.specs.Places.{of_channel, of_report};

@@ -1,4 +1,6 @@
 // What one event adds to the 44 numbers of a shift report, found out on the memory before it. Each function adds what one kind of event counts.
+#![tactic(auto)]
+
 ghost use Rattle.std.specs.Prelude.{◌≡◌, List, ◌++◌, ℕ, ◌≤◌, ◌<◌, min, T, length, drop};
 ghost use Rattle.machine.specs.Limits.{lines, most_bytes};
 ghost use Rattle.machine.specs.Message.{id_bytes};

@@ -1,4 +1,6 @@
 // What each event of a recording adds to the 44 numbers of a shift report, found out on the memory before it.
+#![tactic(auto)]
+
 ghost use Rattle.std.specs.Prelude.{◌≡◌, List, ℕ, T};
 ghost use Rattle.machine.specs.Channel.{clear};
 ghost use Rattle.machine.specs.Step.{call};

@@ -1,4 +1,6 @@
 // What the shift report looks at before it counts an event: the line of a channel, and what the region of a raw channel holds.
+#![tactic(auto)]
+
 ghost use Rattle.std.specs.Prelude.{◌≡◌, ◌≤◌, T, length};
 ghost use Rattle.machine.specs.Limits.{most_to_read};
 ghost use Rattle.layout.specs.Sizes.{region_size};

@@ -1,4 +1,6 @@
 // Where each number of the shift report stands, for code: each place said once. That they are those of the definitions is the promise of `numbers`.
+#![tactic(auto)]
+
 ghost use Rattle.std.specs.Prelude.{◌≡◌};
 ghost use Rattle.shift_places.specs.Places.{named};
 

@@ -1,4 +1,6 @@
 // The shift report of a recording: each event is read, counted on the memory before it, and played.
+#![tactic(auto)]
+
 ghost use Rattle.std.specs.Prelude.{◌≡◌, ◌≤◌, T, length};
 ghost use Rattle.codec.specs.Plain.{zeros};
 ghost use Rattle.recording_sizes.specs.Sizes.{longest, event_room};

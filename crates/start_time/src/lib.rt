@@ -1,4 +1,6 @@
 // Reads the start time of a log: seconds, with a point and one to six decimals where they are given.
+#![tactic(auto)]
+
 ghost use Rattle.std.specs.Prelude.{◌≡◌};
 ghost use Rattle.text_reader.specs.Reading.{valued};
 ghost use Rattle.start_time.specs.Start.{unit_of, decimals_in, start_of, within};

@@ -230,7 +230,7 @@ module _ (rates s : List ℕ) (flags : ℕ) (t : Setup) where
         loopback_is = refl;
       })
 
-  -- WHERE THE PARTS STAND of a store that reads as a set_up of these flags
+  -- WHERE THE PARTS STAND of a store that reads as a set-up of these flags
   pub laid : read_whole (store_in rates) s ≡ some t → t.flags ≡ flags → Laid rates s flags t
   laid e own = go (whole_there (store_in rates) s t e)
     where

@@ -35,7 +35,7 @@ pub record Entries {A : Type 0} (p : Reads A) (s : List ℕ) (at next : ℕ) : T
   pub few : count ≤ most_places
   pub each : each_in p 0 count s first ≡ some (entries, next)
 
--- WHERE THE PARTS STAND of a store that reads as a set_up of these flags: the filters behind the flags, the periodics, the rate, the loopback
+-- WHERE THE PARTS STAND of a store that reads as a set-up of these flags: the filters behind the flags, the periodics, the rate, the loopback
 pub record Laid (rates s : List ℕ) (flags : ℕ) (t : Setup) : Type 0 where
   pub body : ℕ
   pub periodics_at : ℕ

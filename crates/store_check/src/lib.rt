@@ -1,4 +1,6 @@
-// The check of a whole saved set_up, which changes nothing: would a channel of given flags take it?
+// The check of a whole saved set-up, which changes nothing: would a channel of given flags take it?
+#![tactic(auto)]
+
 ghost use Rattle.std.specs.Prelude.{◌≡◌};
 ghost use Rattle.codec.specs.Plain.{within};
 ghost use Rattle.number.specs.Reads.{number as number_in, only};

@@ -1,4 +1,6 @@
 // The second walk over a store that is known to be good: its entries are written into empty places, and nothing is tested.
+#![tactic(auto)]
+
 ghost use Rattle.std.specs.Prelude.{map, ◌≡◌, ◌<◌, set};
 ghost use Rattle.std.proofs.Math.Option.{some};
 ghost use Rattle.codec.specs.Plain.{zeros};

@@ -1,4 +1,6 @@
-// The parts of a saved set_up: where a clean record, a filter and a periodic end, or that they are bad.
+// The parts of a saved set-up: where a clean record, a filter and a periodic end, or that they are bad.
+#![tactic(auto)]
+
 ghost use Rattle.std.specs.Prelude.{◌≡◌, ◌≤◌, length};
 ghost use Rattle.machine.specs.Limits.{record_size};
 ghost use Rattle.machine.specs.Store.{is_clean, clean_in};

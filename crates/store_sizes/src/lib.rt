@@ -1,4 +1,6 @@
 // The length of the store of a channel, worked out from the parts of its region, and how many entries it has.
+#![tactic(auto)]
+
 ghost use Rattle.std.specs.Prelude.{◌≡◌, ◌<◌, length, get_or};
 ghost use Rattle.std.proofs.Math.Option.{none};
 ghost use Rattle.machine.specs.Limits.{most_places};

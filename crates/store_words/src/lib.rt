@@ -1,5 +1,7 @@
-// A saved set_up in words on standard output, a line for each filter and periodic. It is one that a check has taken; of other bytes come words too,
+// A saved set-up in words on standard output, a line for each filter and periodic. It is one that a check has taken; of other bytes come words too,
 // which mean nothing.
+#![tactic(auto)]
+
 use number::Number;
 use places::{DATA_IN, RECORD};
 use trace_words::{byte_at, bytes, hex, number, part, text};

@@ -1,4 +1,6 @@
 // Are these stored records? A record's fields, its width on a connection of given flags, and stores of at most so many.
+#![tactic(auto)]
+
 ghost use Rattle.std.specs.Prelude.{◌≡◌, ◌+◌, ◌*◌, ◌≤◌, length, drop};
 ghost use Rattle.codec.specs.Code.{up_to};
 ghost use Rattle.machine.specs.Limits.{record_size, data_in};

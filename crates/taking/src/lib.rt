@@ -1,4 +1,6 @@
 // Taking: the record in flight, or the chosen one, which then is in flight.
+#![tactic(auto)]
+
 ghost use Rattle.std.specs.Prelude.{◌≡◌, List, ◌∷◌, ℕ, ◌≤◌, length, get_or};
 ghost use Rattle.machine.specs.Limits.{record_size};
 ghost use Rattle.machine.specs.Channel.{take_next};

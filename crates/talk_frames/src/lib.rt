@@ -1,4 +1,6 @@
 // A frame on the place of a conversation: its transfer afterwards, and what is told.
+#![tactic(auto)]
+
 ghost use Rattle.std.specs.Prelude.{◌≡◌, ◌++◌, ℕ, ◌+◌, ◌≤◌, T, length, get_or, take, drop};
 ghost use Rattle.codec.specs.Code.{slot};
 ghost use Rattle.machine.specs.Limits.{most_bytes};

@@ -1,5 +1,7 @@
 // What a conversation gives to be sent: a flow frame that waits, the next frame of its transmission. Its data go into a lent buffer of eight bytes, and
 // its place then holds the transfer whose frame was taken.
+#![tactic(auto)]
+
 ghost use Rattle.std.specs.Prelude.{◌≡◌, ℕ, ◌≤◌, length};
 ghost use Rattle.iso.specs.Limits.{most_payload};
 ghost use Rattle.iso.specs.Iso.{answer_of, segment_of};

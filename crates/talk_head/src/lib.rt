@@ -1,4 +1,6 @@
 // What a transfer is but for its payload, as code meets it: one value out of a conversation's place, and into it; and the payload there.
+#![tactic(auto)]
+
 ghost use Rattle.std.specs.Prelude.{◌≡◌, ◌++◌, [], ◌+◌, ◌-◌, ◌≤◌, T, length, drop};
 ghost use Rattle.codec.specs.Code.{mark_of};
 ghost use Rattle.iso.specs.Limits.{most_payload};

@@ -1,4 +1,6 @@
 // What a frame means to a conversation, decided by value: its transfer's head, how many payload bytes it holds, and the frame.
+#![tactic(auto)]
+
 ghost use Rattle.std.specs.Prelude.{◌≡◌, Bool, List, [], ℕ, ◌+◌, ◌%◌, ◌≤◌, ◌<◌, min, length};
 ghost use Rattle.iso.specs.Limits.{most_payload};
 ghost use Rattle.iso.specs.Iso.{Talk, gap_of, number_after, on_single, on_first, on_consecutive, becomes, on_flow_of, listening};

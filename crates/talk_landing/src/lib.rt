@@ -1,4 +1,6 @@
 // A conversation when the frame in flight that belongs to it was sent: what becomes of its transfer, and whether a message is whole.
+#![tactic(auto)]
+
 ghost use Rattle.std.specs.Prelude.{◌≡◌, List, ℕ, ◌-◌, T, length};
 ghost use Rattle.codec.specs.Code.{slot};
 ghost use Rattle.iso.specs.Iso.{Transfer, turned_slot, news_at, sent_of, done_of};

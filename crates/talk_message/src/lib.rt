@@ -1,4 +1,6 @@
 // The message of a conversation's transmission that was sent as a whole, out of its place.
+#![tactic(auto)]
+
 ghost use Rattle.std.specs.Prelude.{◌≡◌, ℕ, ◌≤◌, T, length, drop};
 ghost use Rattle.codec.specs.Code.{slot};
 ghost use Rattle.iso.specs.Limits.{most_payload};

@@ -1,4 +1,6 @@
 // A segmented message starts on an idle conversation: its first frame's data go into a lent buffer of eight bytes, its payload into the place.
+#![tactic(auto)]
+
 ghost use Rattle.std.specs.Prelude.{◌≡◌, ℕ, ◌≤◌, length, drop};
 ghost use Rattle.std.specs.Bool.{beq};
 ghost use Rattle.machine.specs.Message.{Rec, bit, id_of};

@@ -1,4 +1,6 @@
 // A flow-control filter as it is started: what its three records say, the checks in their order, and its conversation's place.
+#![tactic(auto)]
+
 ghost use Rattle.std.specs.Prelude.{◌≡◌, [], ◌∷◌, ℕ, ◌≤◌, length};
 ghost use Rattle.std.proofs.Math.Option.{some};
 ghost use Rattle.codec.specs.Plain.{zeros};

@@ -1,4 +1,6 @@
 // What a conversation tells of a frame, with the payload of a message in a lent buffer.
+#![tactic(auto)]
+
 ghost use Rattle.std.specs.Prelude.{◌≡◌, ◌++◌, ℕ, ◌+◌, ◌≤◌, ◌<◌, length, take, drop};
 ghost use Rattle.machine.specs.Limits.{most_bytes};
 ghost use Rattle.iso.specs.Limits.{most_payload};

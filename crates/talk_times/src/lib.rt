@@ -1,4 +1,6 @@
 // A conversation some microseconds later: one second without the awaited frame drops its transfer, and STmin runs out.
+#![tactic(auto)]
+
 ghost use Rattle.std.specs.Prelude.{◌≡◌, List, ℕ, T, length};
 ghost use Rattle.codec.specs.Code.{slot};
 ghost use Rattle.iso.specs.Iso.{Transfer, turned_slot, later_transfer};

@@ -1,4 +1,6 @@
 // Starting a flow-control filter on the region of an ISO 15765 channel: its code.
+#![tactic(auto)]
+
 ghost use Rattle.std.specs.Prelude.{◌≡◌, ℕ};
 ghost use Rattle.iso.specs.Iso.{OpenIso, ready, talk_code};
 ghost use Rattle.iso_layout.specs.Region.{iso_region};

@@ -1,4 +1,6 @@
 // What the reader answers: no telegram, one that carries no bytes, and the array of those that one carries.
+#![tactic(auto)]
+
 ghost use Rattle.std.specs.Prelude.{◌≡◌, [], ◌+◌, ◌≤◌, length, drop};
 ghost use Rattle.std.proofs.Math.Option.{none, some};
 ghost use Rattle.telegram.specs.Bits.{only_if};

@@ -1,4 +1,6 @@
 // A telegram's bytes over the start of a buffer, as the writer leaves them; a refusal leaves the buffer as it was.
+#![tactic(auto)]
+
 ghost use Rattle.std.specs.Prelude.{◌≡◌, true, List, [], ◌∷◌, ◌++◌, ℕ, ◌+◌, ◌≤◌, length};
 ghost use Rattle.telegram_types.specs.Face.{wrote, refusal, over, done, written_if};
 

@@ -1,4 +1,6 @@
 // What a field may be, for the reader and the writer alike.
+#![tactic(auto)]
+
 ghost use Rattle.std.specs.Prelude.{◌≡◌, ◌≤◌};
 ghost use Rattle.telegram.specs.Bits.{within, bit_value};
 ghost use Rattle.telegram.specs.Telegram.{is_opening_id, is_destination, is_id, is_application, is_negative};
@@ -17,14 +19,14 @@ pub fn negative(kind: u8) -> bool
     (0xD6 <= kind) & (kind <= 0xD8)
 }
 
-// The application of a set_up or a positive reply.
+// The application of a set-up or a positive reply.
 pub fn application(a: u8) -> bool
     ensures { result ≡ is_application a }
 {
     (a == 0x01) | ((a == 0x10) | ((a == 0x20) | (a == 0x21)))
 }
 
-// The destination of a set_up or a reply.
+// The destination of a set-up or a reply.
 pub fn destination(d: u8) -> bool
     ensures { result ≡ is_destination d }
 {

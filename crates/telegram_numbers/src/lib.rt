@@ -1,4 +1,6 @@
 // Telegrams as numbers: a kind and five fields.
+#![tactic(auto)]
+
 ghost use Rattle.std.specs.Prelude.{◌≡◌, List, ℕ};
 ghost use Rattle.std.proofs.Math.Option.{none};
 ghost use Rattle.telegram_types.specs.Face.{naming, kind_and_fields, numbers_of, said, opening_said, channel_said};

@@ -58,7 +58,7 @@ alone_in kind =
     else if eqb kind 0xA8 then some (channel disconnection)
     else none
 
--- by the kind: 0xC0 a set_up, 0xD0 a positive reply, 0xD6, 0xD7 and 0xD8 negative ones
+-- by the kind: 0xC0 a set-up, 0xD0 a positive reply, 0xD6, 0xD7 and 0xD8 negative ones
 unfoldable pub opening_in : List ℕ → Option AnyTelegram
 opening_in r =
     if eqb (word_at 0 r) 0xC0 then some (set_up_in r)
@@ -66,7 +66,7 @@ opening_in r =
     else if eqb (word_at 0 r) 0xD6 || (eqb (word_at 0 r) 0xD7 || eqb (word_at 0 r) 0xD8) then some (negative_in r)
     else none
 
--- 0x00 data, 0x90 an acknowledge, 0xA0 a connection set_up and 0xA1 its acknowledge, 0xA3, 0xA4 and 0xA8 those of no fields
+-- 0x00 data, 0x90 an acknowledge, 0xA0 a connection set-up and 0xA1 its acknowledge, 0xA3, 0xA4 and 0xA8 those of no fields
 unfoldable pub channel_in : List ℕ → Option AnyTelegram
 channel_in r =
     if eqb (word_at 0 r) 0x00 then data_in r

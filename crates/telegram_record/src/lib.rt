@@ -1,4 +1,6 @@
 // A telegram's record of 32 bytes, filled with its numbers.
+#![tactic(auto)]
+
 ghost use Rattle.std.specs.Prelude.{◌≡◌, List, ◌∷◌, ◌++◌, ℕ, ◌≤◌};
 ghost use borrow.Rule.Slice.PartMut.{put_mid};
 ghost use Rattle.codec.specs.Plain.{zeros};

@@ -1,4 +1,5 @@
 // What callers, reader and writer hand each other: telegrams and answers as declared types.
+#![tactic(auto)]
 
 // An opening telegram. The five bytes of a negative reply stand beside it.
 #[derive(Drop)]

@@ -1,4 +1,5 @@
 // Telegrams in words on standard output: their bytes, numbers, codes and kinds.
+#![tactic(auto)]
 
 // A byte, a space before it.
 fn byte(b: u8) {

@@ -1,5 +1,7 @@
 // Runs the reader and the writer on worked telegrams, and prints a line for each. What the file `stdout` holds was worked out by hand
 // from documents 001 (tables 3 to 5, sections 5.1.3 and 5.2.2) and 01 and request P6, before the program was first run with them.
+#![tactic(auto)]
+
 use telegram_words::number;
 
 // A time byte and its time.

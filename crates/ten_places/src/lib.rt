@@ -1,4 +1,6 @@
 // Are these ten filters, or ten periodics? Place by place, from their columns.
+#![tactic(auto)]
+
 ghost use Rattle.std.specs.Prelude.{◌≡◌, ◌<◌, length};
 ghost use Rattle.machine.specs.Limits.{most_places};
 ghost use Rattle.layout.specs.Sizes.{filters_size, periodics_size};

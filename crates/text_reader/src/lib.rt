@@ -1,4 +1,6 @@
 // Reads text: where a byte stands, the value of a digit of either case, the number of some digits.
+#![tactic(auto)]
+
 ghost use Rattle.std.specs.Prelude.{◌≡◌, ◌+◌, ◌≤◌, length, drop};
 ghost use Rattle.text_reader.specs.Reading.{before, digit_of, far, near, near_value};
 

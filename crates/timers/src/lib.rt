@@ -1,4 +1,6 @@
 // The timers of a channel, moved on in time: those of its periodics and of its connection.
+#![tactic(auto)]
+
 ghost use Rattle.std.specs.Prelude.{◌≡◌, map, ℕ, ◌<◌, ◌≤◌, T, length};
 ghost use Rattle.machine.specs.Limits.{most_places, most_advance};
 ghost use Rattle.machine.specs.Channel.{later_slot, on_advance};

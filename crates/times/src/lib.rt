@@ -1,4 +1,6 @@
 // The 256 time bytes of TP2.0 in units of 0.1 ms, kept as a table.
+#![tactic(auto)]
+
 ghost use Rattle.std.specs.Prelude.{◌≡◌};
 ghost use Rattle.telegram.specs.Telegram.{time_of};
 

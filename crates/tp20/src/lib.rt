@@ -1,4 +1,6 @@
 // TP2.0 telegrams: a reader, a writer, and the numbers of a telegram for a trace.
+#![tactic(auto)]
+
 ghost use Rattle.std.specs.Prelude.{◌≡◌};
 ghost use Rattle.telegram.specs.Telegram.{read_any};
 ghost use Rattle.telegram_types.specs.Face.{told, answering, wrote, writing, said, naming};

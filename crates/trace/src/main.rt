@@ -1,4 +1,6 @@
 // Shows the recording on standard input in words: each event, what a device answers to it from power-on, and the records of both.
+#![tactic(auto)]
+
 use codes::Answer;
 use device::MEMORY;
 use events::{Event, Found, Giving, Plain};

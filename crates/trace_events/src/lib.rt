@@ -1,4 +1,6 @@
 // Events, records and answers of a device, in words.
+#![tactic(auto)]
+
 use codes::Answer;
 use events::{Giving, Plain};
 use trace_words::{byte_at, bytes, code, hex, named, number, part, records, text, two};

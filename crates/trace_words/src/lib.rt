@@ -1,4 +1,6 @@
 // Words, numbers, codes and records on standard output.
+#![tactic(auto)]
+
 use libc::STDOUT_FILENO;
 
 // Text as it is.

@@ -1,4 +1,6 @@
 // Is this the region of a raw channel? Each function decides what one part of the layout calls valid, and the cost grows with what is held.
+#![tactic(auto)]
+
 ghost use Rattle.std.specs.Prelude.{◌≡◌, length, drop};
 ghost use Rattle.layout.specs.Sizes.{config_size, mapped_size, sending_size, receiving_size, flags_at, region_size};
 ghost use Rattle.layout.specs.Memory.{config, mapped, sending_part, receiving_part, link_part, open_part, region};

@@ -1,5 +1,7 @@
 // The verdict of a channel's filters on a frame: some pass filter matches, and no block filter does. A narrow frame is looked up in the maps; the
 // walk goes over those filters alone that are in neither.
+#![tactic(auto)]
+
 ghost use Rattle.std.specs.Prelude.{◌≡◌, not, ◌&&◌, List, ◌++◌, ℕ, ◌+◌, ◌≤◌, ◌<◌, length, take};
 ghost use Rattle.machine.specs.Limits.{most_places};
 ghost use Rattle.machine.specs.Message.{id_bytes, id_limit};

@@ -126,7 +126,7 @@ pub record Alike (i : ℕ) (d d' : Device) : Type 0 where
   pub here : EightChannels d
   pub there : EightChannels d'
 
--- PROJECTION. Where all events run on d and the struck_out list on d', channel i receives the same answers, and it and the clock end the same
+-- PROJECTION. Where all events run on d and the struck-out list on d', channel i receives the same answers, and it and the clock end the same
 pub record Projected (rates : List ℕ) (i : ℕ) (d d' : Device) (es : List Event) : Type 0 where
   pub receives : answers_of rates i d es ≡ answers rates d' (strike i es)
   pub ends : Alike i (run rates d es) (run rates d' (strike i es))

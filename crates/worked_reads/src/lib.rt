@@ -1,4 +1,6 @@
 // Worked telegrams as bytes, and a line for what the reader, the naming and the writer make of each.
+#![tactic(auto)]
+
 use telegram_words::{carried, code, first, kind, number, show};
 use tp20::{Taken, Telegram};
 

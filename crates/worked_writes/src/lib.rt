@@ -1,4 +1,6 @@
 // Worked telegrams as values, on a channel and opening ones, and a line for what the writer makes of each.
+#![tactic(auto)]
+
 use telegram_words::{code, show_all};
 use tp20::{OnChannel, Opening, Telegram, Written};
 
@@ -111,7 +113,7 @@ pub fn writes_on_channel() {
     from_module(b"connection acknowledge, T2 00, T4 fe,", 0x00, 0xFE);
 }
 
-// A set_up for diagnostics.
+// A set-up for diagnostics.
 fn set_up(label: &[u8], identifier: u32, destination: u8, rx_id: u16) {
     write(
         label,

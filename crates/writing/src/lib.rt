@@ -1,4 +1,6 @@
 // Writing: records queued behind those that a channel holds to be sent.
+#![tactic(auto)]
+
 ghost use Rattle.std.specs.Prelude.{◌≡◌, List, [], ℕ, ◌*◌, ◌≤◌, not, T, length};
 ghost use Rattle.machine.specs.Limits.{record_size};
 ghost use Rattle.machine.specs.Channel.{listens, write_code, writing};

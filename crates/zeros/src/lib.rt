@@ -1,4 +1,6 @@
 // Zeros where nothing is held: at the end of eight or twelve bytes, in the place of a record, in a whole part. Bytes are looked at as numbers.
+#![tactic(auto)]
+
 ghost use Rattle.std.specs.Prelude.{◌≡◌, ◌+◌, ◌*◌, ◌/◌, ◌^◌, ◌<◌, ◌≤◌, min, eqb, length, take, drop};
 ghost use Rattle.codec.specs.Plain.{all_zero};
 ghost use Rattle.machine.specs.Limits.{record_size, most_data};

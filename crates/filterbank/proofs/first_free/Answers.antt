@@ -20,8 +20,7 @@ returns-then-part-i-eq0 c =
 
 pub loop-i-preserved : goal.loop-i-preserved
 loop-i-preserved c =
-    let l = c.loop-i in
-    (
+    let l = c.loop-i in (
       omega arith,
       λ flags.
           let h = ten_held c.args.part.now c.requires flags in

@@ -23,12 +23,12 @@ loop-i-init c = (omega arith, omega arith, refl, refl)
 
 pub loop-i-preserved : goal.loop-i-preserved
 loop-i-preserved c = let a : ℕ = 1 + c.loop-i.i * iso_record_size in (
-      omega arith,
-      omega arith,
-      refl,
-      ap (λ (b : Bool). c.loop-i.good && b) c.cell-good.ensures
-          ∙ turn (held c.args.sending c.args.flags) iso_record_size (held_size c.args.sending c.args.flags) 1 c.loop-i.i a (a + iso_record_size - a) c.args.s.now c.loop-i.good refl (omega arith) c.loop-i.invariant.3,
-    )
+  omega arith,
+  omega arith,
+  refl,
+  ap (λ (b : Bool). c.loop-i.good && b) c.cell-good.ensures
+      ∙ turn (held c.args.sending c.args.flags) iso_record_size (held_size c.args.sending c.args.flags) 1 c.loop-i.i a (a + iso_record_size - a) c.args.s.now c.loop-i.good refl (omega arith) c.loop-i.invariant.3,
+)
 
 pub returns : goal.returns
 returns c = let s : List ℕ = c.args.s.now in

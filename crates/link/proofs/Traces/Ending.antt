@@ -102,7 +102,7 @@ pub disconnected : Happens
 unfolding seen
 disconnected = as_told refl
 
--- ignored on a standing connection: what can't be taken apart, a connection set_up, other identifiers
+-- ignored on a standing connection: what can't be taken apart, a connection set-up, other identifiers
 pub ignored : Happens
     (up 15 0x8A 15 0x00
     ++ they []

@@ -3,7 +3,7 @@ use mathlib.Core.Path.{refl}
 use mathlib.Core.List.{[], ◌∷◌, ◌++◌}
 use Rattle.link.proofs.Traces.Words.{opens, takes, sents, ends, fetches, passes, frame, begins, state, gone, quiet, refused, ◌⇒◌, seen, Happens, as_told, each, asks_for, out, still, set_up, we, they, wait, over, send, reply, our_set_up, up}
 
--- the set_up, the reply, the connection set_up and its acknowledge
+-- the set-up, the reply, the connection set-up and its acknowledge
 pub opened : Happens
     (asks_for 15 0x8A 0x00 ⇒ state 1
     ∷ asks_for 15 0x8A 0x00 ⇒ refused
@@ -106,7 +106,7 @@ pub connecting : Happens
 unfolding seen
 connecting = as_told refl
 
--- a reply while the set_up flies, an acknowledge while the connection set_up flies: their sents mean nothing, and T3 doesn't run yet
+-- a reply while the set-up flies, an acknowledge while the connection set-up flies: their sents mean nothing, and T3 doesn't run yet
 pub answered_in_flight : Happens
     (asks_for 15 0x8A 0x00 ⇒ state 1
     ∷ takes ⇒ gone 0x200 (0x01 ∷ 0xC0 ∷ 0x00 ∷ 0x10 ∷ 0x00 ∷ 0x03 ∷ 0x01 ∷ [])

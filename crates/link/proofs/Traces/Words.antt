@@ -92,7 +92,7 @@ out id b left = takes ⇒ gone id b ∷ sents ⇒ state left ∷ []
 abbrev pub still : Story
 still = takes ⇒ quiet ∷ []
 
--- the set_up; a telegram of ours on the channel, which stands; one of the partner's; time passes
+-- the set-up; a telegram of ours on the channel, which stands; one of the partner's; time passes
 abbrev pub set_up : Story
 set_up = out 0x200 (0x01 ∷ 0xC0 ∷ 0x00 ∷ 0x10 ∷ 0x00 ∷ 0x03 ∷ 0x01 ∷ []) 1
 
@@ -113,7 +113,7 @@ over = out 0x740 (0xA8 ∷ []) 0
 abbrev pub send : List ℕ → Story
 send m = begins m ⇒ state 3 ∷ []
 
--- the positive reply with TX-ID 0x740; our connection set_up
+-- the positive reply with TX-ID 0x740; our connection set-up
 abbrev pub reply : Event
 reply = frame 0x201 (0x00 ∷ 0xD0 ∷ 0x00 ∷ 0x03 ∷ 0x40 ∷ 0x07 ∷ 0x01 ∷ [])
 

@@ -1,4 +1,4 @@
--- `link_giving::connect` meets its contract: a connection set_up is in flight, where it waited. Assumes nothing.
+-- `link_giving::connect` meets its contract: a connection set-up is in flight, where it waited. Assumes nothing.
 use Rattle.link_giving.proofs.Laws.{connection_lent, no_connection, connection_given}
 use borrow.Author.Rules.{rules}
 use Rattle.link_giving.proofs.connect.Statement.{statement}

@@ -1,4 +1,4 @@
--- `link_giving::set_up` meets its contract: a channel set_up is in flight, where it waited. Assumes nothing.
+-- `link_giving::set_up` meets its contract: a channel set-up is in flight, where it waited. Assumes nothing.
 use Rattle.link_giving.proofs.Laws.{set_up_lent, no_set_up, set_up_given}
 use borrow.Author.Rules.{rules}
 use Rattle.link_giving.proofs.set_up.Statement.{statement}

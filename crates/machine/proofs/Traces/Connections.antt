@@ -57,7 +57,7 @@ abbrev no_connection : Story
 no_connection = call 1 link_end ⇒ code 0x07 ∷ []
 
 -- ---- opening
--- the set_up, the reply, the connection set_up and its acknowledge: a receive tells that the connection stands
+-- the set-up, the reply, the connection set-up and its acknowledge: a receive tells that the connection stands
 pub opened : Happens
     (connect 0 5 0 500000 ⇒ gives 1
     ∷ call 1 (opens 15 0x8A 0x00) ⇒ done

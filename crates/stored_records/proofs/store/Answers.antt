@@ -22,12 +22,12 @@ loop-i-init c = (omega arith, omega arith, refl, refl)
 
 pub loop-i-preserved : goal.loop-i-preserved
 loop-i-preserved c = let a : ℕ = 1 + c.loop-i.i * record_size in (
-      omega arith,
-      omega arith,
-      refl,
-      ap (λ (b : Bool). c.loop-i.good && b) c.cell-good.ensures
-          ∙ turn (cell c.args.sending c.args.flags) record_size (cell_size c.args.sending c.args.flags) 1 c.loop-i.i a (a + record_size - a) c.args.s.now c.loop-i.good refl (omega arith) c.loop-i.invariant.3,
-    )
+  omega arith,
+  omega arith,
+  refl,
+  ap (λ (b : Bool). c.loop-i.good && b) c.cell-good.ensures
+      ∙ turn (cell c.args.sending c.args.flags) record_size (cell_size c.args.sending c.args.flags) 1 c.loop-i.i a (a + record_size - a) c.args.s.now c.loop-i.good refl (omega arith) c.loop-i.invariant.3,
+)
 
 pub returns : goal.returns
 returns c = let s : List ℕ = c.args.s.now in

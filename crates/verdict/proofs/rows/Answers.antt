@@ -9,8 +9,7 @@ use borrow.Author.Rules.{rules}
 use Rattle.machine.specs.Limits.{most_places, most_data}
 use Rattle.filterwalk.specs.Columns.{listed, ten_rows}
 use Rattle.filterwalk.proofs.Listed.{listed_more, listed_done}
-use Rattle.verdict.proofs.rows.Statement.{statement}
-use Rattle.verdict.proofs.rows.Tie as tie
+use Rattle.verdict.proofs.rows.Goals as goal
 
 -- twelve bytes that are lent from a place to another
 row_lent : (m : List ℕ) (at f : ℕ) → take (at + f * most_data + most_data - (at + f * most_data)) (drop (at + f * most_data) m) ≡ take most_data (drop (at + f * most_data) m)
@@ -21,58 +20,31 @@ row_lent m at f =
 row_long : (m : List ℕ) (at f : ℕ) → at + f * most_data + most_data ≤ length m → length (take (at + f * most_data + most_data - (at + f * most_data)) (drop (at + f * most_data) m)) ≡ most_data
 row_long m at f h = ap length (row_lent m at f) ∙ length-take-le most_data (drop (at + f * most_data) m) (omega (arith, length-drop (at + f * most_data) m))
 
-abbrev invariant_loop : tie.invariant-loop
-invariant_loop mem at out₀ f₀ out f = (f ≤ most_places) × (length out ≡ most_places) × (take f out ≡ listed f (λ k. take most_data (drop (at + k * most_data) mem)))
-
-abbrev decreases_loop : tie.decreases-loop
-decreases_loop mem at out₀ f₀ out f = most_places - f
-
-loop_holds : tie.Need-loop-init invariant_loop decreases_loop
+pub loop-f-init : goal.loop-f-init
 unfolding listed
-loop_holds c = search rules
+loop-f-init c = search rules
 
-copy_requires : tie.Need-copy-requires invariant_loop decreases_loop
-copy_requires c κs =
-    let l = c.before.before.before.loop in
-    let a = c.before.before.before.before.before.args in
-    c.before.copy-arg.given.0.1 ∙ sym (row_long a.mem.now a.at l.f (omega arith))
+pub copy-requires : goal.copy-requires
+copy-requires c =
+    let l = c.loop-f in
+    let a = c.args in
+    c.copy-arg-1.given.0.1 ∙ sym (row_long a.mem.now a.at l.f (omega arith))
 
-loop_again : tie.Need-loop-preserved invariant_loop decreases_loop
-loop_again c =
-    let l = c.before.before.before.before.loop in
-    let a = c.before.before.before.before.before.before.args in
+pub loop-f-preserved : goal.loop-f-preserved
+loop-f-preserved c =
+    let l = c.loop-f in
+    let a = c.args in
     let m : List ℕ = a.mem.now in (
       omega arith,
       simp length-set (search rules),
       listed_more (λ k. take most_data (drop (a.at + k * most_data) m)) l.f l.out _ (omega arith) (c.copy.ensures ∙ row_lent m a.at l.f) l.invariant.2,
     )
 
-returns : tie.Need-returns invariant_loop decreases_loop
+pub returns : goal.returns
 unfolding ten_rows
 returns c =
-    let l = c.before.loop in
-    let a = c.before.before.before.args in
+    let l = c.loop-f in
+    let a = c.args in
     let m : List ℕ = a.mem.now in
     let e : l.f ≡ most_places = omega arith in
     listed_done (λ k. take most_data (drop (a.at + k * most_data) m)) most_places l.out l.invariant.1 (rw e at l.invariant.2)
-
-pub rows_spec : {M : Type 1} → statement M
-rows_spec =
-    tie.close
-    (tie.spec
-    invariant_loop
-    decreases_loop
-    loop_holds
-    (λ c. search rules)
-    (λ c. search rules)
-    (λ c. search rules)
-    (λ c. search rules)
-    (λ c. search rules)
-    (λ c. search rules)
-    (λ c. search rules)
-    (λ c. search rules)
-    copy_requires
-    (λ c. search rules)
-    (λ c. search rules)
-    loop_again
-    returns)
