@@ -1,4 +1,4 @@
--- Lists of pairs, one pair at a time, as the walks take them. Assumes nothing.
+-- Lists of pairs, one pair at a time, as the loops take them. Assumes nothing.
 use mathlib.Core.Path.{◌≡◌, refl, sym, ap, subst, ◌∙◌}
 use Prim.Native.Nat.{ℕ, zero, suc, ◌+◌, ◌≤◌, ◌<◌}
 use native.Mathlib.Nat.{le_of_suc-le-suc, not-suc-le-zero}

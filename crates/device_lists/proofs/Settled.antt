@@ -1,5 +1,5 @@
--- ANY TWO OUTCOMES OF A LIST ARE EQUAL. The two functions that take one are walked by hand; that their postconditions are `SetPost` and `GetPost` is said
--- beside. Assumes nothing.
+-- ANY TWO OUTCOMES OF A LIST ARE EQUAL; that the postconditions of the two functions that take one are `SetPost` and `GetPost` is said beside. Assumes
+-- nothing.
 use mathlib.Core.Path.{◌≡◌, refl, sym, ap, ◌∙◌}
 use Prim.Native.Nat.{ℕ}
 use mathlib.Core.List.{List, [], ◌∷◌}

@@ -175,7 +175,7 @@ trawl_time_settled κs a x y p q = alike (p ∙ sym q) (λ s. (s, x.1))
 pub trawl_replay_settled : OneOutcome 5 trawl_replay_kinds.ps trawl_replay_kinds.r trawl-replay.Post
 trawl_replay_settled κs a x y p q = alike (p ∙ sym q) (λ s. (s.code, (s.memory, (tt, (s.at, (s.buffer, (s.size, tt)))))))
 
--- the two lists, whose functions are walked by hand: their postconditions are `SetPost` and `GetPost`, of which any two outcomes are equal (device,
+-- the two lists, whose functions take a slice of structs: their postconditions are `SetPost` and `GetPost`, of which any two outcomes are equal (device,
 -- Settled `set_list_settled`, `get_list_settled`)
 module _ {M : Type 1} {𝓤 : Ura M} (𝓛 : Logic 𝓤) (at_mem : Memory → SProp 𝓤) (run : Routine → Fun 𝓤) (κs : Lfts 2) where
   pub trawl_set_list_says : (a : Args trawl-set-list.signature κs) (c : ℕ) (e : AtExit trawl-set-list.ended κs)

@@ -8,7 +8,7 @@ ghost use Rattle.reader.specs.Reader.{reader_at, next_number, moved_to, at_end};
 use number::Number;
 
 // A recording and a place in it. Its functions take the two apart and leave the work to `number::number_at`.
-#[derive(Drop)]
+#[derive(Clone, Copy)]
 pub struct Reader<'a> {
     pub recording: &'a [u8],
     pub at: usize,
