@@ -38,7 +38,7 @@ pub const MISPLACED: u32 = 7;
 pub const OTHER_EDITION: u32 = 8;
 
 // How far an event was looked at: where it is good so far, the place after that; else why it is not, and where the part begins that is to blame.
-#[derive(Drop)]
+#[derive(Clone, Copy)]
 pub struct Spot {
     pub reason: u32,
     pub at: usize,

@@ -25,7 +25,7 @@ const LONGEST_SINGLE: u32 = places::NUMBER as u32 + 7;
 const SECOND: usize = TALKS_AT + TALK_SIZE;
 
 // What a message is matched against: whether a place holds a conversation, and its width and flow identifier.
-#[derive(Drop)]
+#[derive(Clone, Copy)]
 pub struct Flow {
     pub taken: bool,
     pub wide: bool,

@@ -21,7 +21,7 @@ pub const BYTES: usize = PAYLOAD + NUMBER;
 // The kind (0 idle, 1 an overflow waits, 2 receives, 3 to 6 transmits: its first frame flies, it awaits a flow frame, a consecutive frame flies, it
 // sends); the length awaited or the bytes taken; the microseconds run or left; the frames left in the block; STmin in microseconds; whether the
 // go-on waits.
-#[derive(Drop)]
+#[derive(Clone, Copy)]
 pub struct Head {
     pub kind: u8,
     pub n: u32,

@@ -46,7 +46,7 @@ const LONGEST: u32 = 127000;
 
 // What a frame means: nothing; a message of so many bytes behind its first, beside what the transfer does or at the end of a reception; a reception
 // begins, refused, is dropped, goes on, or is whole with so many bytes behind the first; a transmission goes on.
-#[derive(Drop)]
+#[derive(Clone, Copy)]
 pub enum Means {
     Nothing,
     Single(usize),

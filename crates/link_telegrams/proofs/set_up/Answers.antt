@@ -1,0 +1,9 @@
+-- `link_telegrams::set_up` meets its contract: the fields fit, so it is written. Assumes nothing.
+use Rattle.telegram_types.specs.Face.{opening_said}
+use Rattle.link_telegrams.proofs.Laws.{written, set_up_short}
+use Rattle.link_telegrams.proofs.set_up.Goals as goal
+
+pub returns : goal.returns
+unfolding opening_said
+returns c =
+    written c.args.id c.opening-w.result _ _ _ c.requires (set_up_short c.args.destination c.args.rx-id c.args.application) c.opening-w.ensures

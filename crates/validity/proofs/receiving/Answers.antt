@@ -1,0 +1,15 @@
+-- `validity::receiving` meets its contract. Assumes nothing.
+use Rattle.validity.proofs.Region.{receiving_flat}
+use Rattle.codec.proofs.Lists.{bytes_of_law}
+use Rattle.layout.specs.Sizes.{queue_size}
+use lib.ListN.{get_or}
+use lib.Dec.{leb}
+use Prim.Native.Nat.{ℕ}
+use mathlib.Core.List.{List}
+use mathlib.Core.Bool.{Bool, ◌&&◌}
+use mathlib.Core.Path.{ap, ◌∙◌}
+use Rattle.validity.proofs.receiving.Goals as goal
+
+pub returns : goal.returns
+returns c = let s : List ℕ = c.args.s.now in
+    ap (λ (x : Bool). x && leb (get_or s queue_size 0) 1) c.store.ensures ∙ receiving_flat c.args.flags s (bytes_of_law s (λ i. (c.shared_slice_known-2-1.given i).fits))

@@ -1,0 +1,17 @@
+-- `writing::write` meets its contract. Assumes nothing.
+use Rattle.writing.proofs.Writing.{write_short, speaking, written_lent, write_done}
+use Rattle.writing.proofs.write.Goals as goal
+
+pub returns-then-buffer-n : goal.returns-then-buffer-n
+returns-then-buffer-n c = λ rates t. write_short c.requires.is rates t _ _ c.if-buffer-n.true
+
+pub queue_all-requires : goal.queue_all-requires
+queue_all-requires c =
+    let speaker = c.requires in
+    let flags = c.word_at-flags.ensures.0 in
+    (written_lent speaker.is flags, c.if-buffer-n.false, speaking speaker.is flags speaker.speaks)
+
+pub returns : goal.returns
+returns c =
+    λ rates t.
+    write_done c.requires.is c.word_at-flags.ensures.0 rates t _ _ c.if-buffer-n.false c.queue_all.ensures
