@@ -24,27 +24,27 @@ pub slice_bounds-on_channel-count : goal.slice_bounds-on_channel-count
 slice_bounds-on_channel-count c =
     let f = few c.args.size c.args.s.now c.requires in
     let h = begins_inside c.args.size c.args.s.now c.requires in
-    omega (arith, c.wide-taken.ensures.0, c.word_at-n.ensures.0, c.end_of_lem.ensures)
+    omega (arith, c.wide-taken.ensures.0, c.word_at-n.ensures.0, c.end_of.ensures)
 
 pub slice_bounds-on_channel-start : goal.slice_bounds-on_channel-start
 slice_bounds-on_channel-start c =
     let f = few c.args.size c.args.s.now c.requires in
     let h = begins_inside c.args.size c.args.s.now c.requires in
-    omega (arith, c.wide-taken.ensures.0, c.word_at-n.ensures.0, c.end_of_lem.ensures)
+    omega (arith, c.wide-taken.ensures.0, c.word_at-n.ensures.0, c.end_of.ensures)
 
 pub slice_bounds-on_channel-end : goal.slice_bounds-on_channel-end
 slice_bounds-on_channel-end c =
     let f = few c.args.size c.args.s.now c.requires in
     let h = begins_inside c.args.size c.args.s.now c.requires in
-    omega (arith, c.wide-taken.ensures.0, c.word_at-n.ensures.0, c.end_of_lem.ensures, c.requires.long)
+    omega (arith, c.wide-taken.ensures.0, c.word_at-n.ensures.0, c.end_of.ensures, c.requires.long)
 
 pub on_channel-requires : goal.on_channel-requires
 unfolding channel_said
 on_channel-requires c =
     let s = there c.args.size c.args.s.now c.requires in
-    ap fits (telegram_is c.args.size c.args.s.now c.requires s.0 s.1 c.args.sn c.wide.result c.wide-taken.result c.telegrams.result c.block_of.result c.end_of_lem.result c.wide.ensures.0 c.wide-taken.ensures.0
+    ap fits (telegram_is c.args.size c.args.s.now c.requires s.0 s.1 c.args.sn c.wide.result c.wide-taken.result c.telegrams.result c.block_of.result c.end_of.result c.wide.ensures.0 c.wide-taken.ensures.0
     (λ rest e. c.block_of.ensures.0 rest (e ∙ sym c.word_at-n.ensures.0)) (λ rest e. c.telegrams.ensures.0 rest (e ∙ sym c.word_at-n.ensures.0))
-    (c.end_of_lem.ensures ∙ ap (λ (n : ℕ). min (7 * c.wide-taken.result + 7) n) c.word_at-n.ensures.0))
+    (c.end_of.ensures ∙ ap (λ (n : ℕ). min (7 * c.wide-taken.result + 7) n) c.word_at-n.ensures.0))
     ∙ telegram_fits c.args.size c.args.s.now c.requires s.0 s.1 c.args.sn
 
 pub returns : goal.returns
@@ -52,6 +52,6 @@ unfolding channel_said
 returns c =
     λ b e.
     c.on_channel.ensures
-    ∙ ap (λ (x : Telegram). given c.args.id (on_wire x)) (telegram_is c.args.size c.args.s.now c.requires b e c.args.sn c.wide.result c.wide-taken.result c.telegrams.result c.block_of.result c.end_of_lem.result c.wide.ensures.0 c.wide-taken.ensures.0
+    ∙ ap (λ (x : Telegram). given c.args.id (on_wire x)) (telegram_is c.args.size c.args.s.now c.requires b e c.args.sn c.wide.result c.wide-taken.result c.telegrams.result c.block_of.result c.end_of.result c.wide.ensures.0 c.wide-taken.ensures.0
     (λ rest e. c.block_of.ensures.0 rest (e ∙ sym c.word_at-n.ensures.0)) (λ rest e. c.telegrams.ensures.0 rest (e ∙ sym c.word_at-n.ensures.0))
-    (c.end_of_lem.ensures ∙ ap (λ (n : ℕ). min (7 * c.wide-taken.result + 7) n) c.word_at-n.ensures.0))
+    (c.end_of.ensures ∙ ap (λ (n : ℕ). min (7 * c.wide-taken.result + 7) n) c.word_at-n.ensures.0))

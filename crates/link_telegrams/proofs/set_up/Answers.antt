@@ -6,4 +6,4 @@ use Rattle.link_telegrams.proofs.set_up.Goals as goal
 pub returns : goal.returns
 unfolding opening_said
 returns c =
-    written c.args.id c.opening-w.result _ _ _ c.requires (set_up_short c.args.destination c.args.rx-id c.args.application) c.opening-w.ensures
+    written c.args.id c.opening-w.result _ _ _ c.requires (set_up_short c.args.destination c.args.rx_id c.args.application) c.opening-w.ensures

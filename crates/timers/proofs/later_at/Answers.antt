@@ -8,9 +8,6 @@ use Rattle.stores.proofs.Periodics.{interval_small, phase_small}
 use Rattle.timers.proofs.Moves.{later_none, later_soon, later_due}
 use Rattle.timers.proofs.later_at.Goals as goal
 
-rem_put_word : tie.Need-nonzero-rem-put-word
-rem_put_word c = omega (arith, c.before.before.before.before.if1.false)
-
 pub word_at-interval-requires : goal.word_at-interval-requires
 word_at-interval-requires c = omega (arith, c.requires.0.long)
 
@@ -47,4 +44,4 @@ returns c =
     (c.put_word-2.ensures ∙ ap (λ (x : ℕ). word ((c.word_at.result + c.args.us) % (1000 * x))) interval)
 
 pub nonzero_rem-phase : goal.nonzero_rem-phase
-nonzero_rem-phase = rem_put_word
+nonzero_rem-phase c = omega (arith, c.if-interval-eq0.false)
