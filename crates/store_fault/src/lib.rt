@@ -1,4 +1,6 @@
 // Where a bad store is bad: the place of the first number, filter or periodic that no channel of its flags would take.
+#![tactic(auto)]
+
 use number::Number;
 use store_records::Place;
 
