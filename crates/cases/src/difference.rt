@@ -1,5 +1,5 @@
 // What differs between two answers.
-use libc::STDOUT_FILENO;
+use std::io;
 
 // The first place at which two slices differ, or the shorter one's end.
 fn place(a: &[u8], b: &[u8]) -> usize {
@@ -14,31 +14,26 @@ fn place(a: &[u8], b: &[u8]) -> usize {
 }
 
 // A byte in hexadecimal.
-fn hex(byte: u8) {
-    io::print_hex(STDOUT_FILENO, byte as u64, 2);
+fn hex(out: &impl Print, byte: u8) -> io::Result<()> {
+    print!(out; "{byte:02x}")
 }
 
 // The byte at a place, or `none` past the end.
-fn byte(bytes: &[u8], at: usize) {
+fn byte(out: &impl Print, bytes: &[u8], at: usize) -> io::Result<()> {
     if at < bytes.len() {
-        hex(bytes[at]);
+        hex(out, bytes[at])
     } else {
-        io::write_all(STDOUT_FILENO, b"none");
+        out.write_all(b"none")
     }
 }
 
 // Both lengths, the first place that differs, and both bytes there.
-pub fn print(answers: &[u8], expected: &[u8]) {
+pub fn print(out: &impl Print, answers: &[u8], expected: &[u8]) -> io::Result<()> {
     let at = place(answers, expected);
-    io::write_all(STDOUT_FILENO, b": ");
-    io::print_decimal(STDOUT_FILENO, answers.len() as u64);
-    io::write_all(STDOUT_FILENO, b" bytes and not ");
-    io::print_decimal(STDOUT_FILENO, expected.len() as u64);
-    io::write_all(STDOUT_FILENO, b"; at byte ");
-    io::print_decimal(STDOUT_FILENO, at as u64);
-    io::write_all(STDOUT_FILENO, b" ");
-    byte(answers, at);
-    io::write_all(STDOUT_FILENO, b" and not ");
-    byte(expected, at);
-    io::write_all(STDOUT_FILENO, b"\n");
+    let (got, wanted) = (answers.len(), expected.len());
+    print!(out; ": {got} bytes and not {wanted}; at byte {at} ")?;
+    byte(out, answers, at)?;
+    out.write_all(b" and not ")?;
+    byte(out, expected, at)?;
+    out.write_all(b"\n")
 }

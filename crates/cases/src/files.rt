@@ -1,5 +1,6 @@
 // The files of a case.
-use libc::STDOUT_FILENO;
+use std::rt::Files;
+use std::{fs, io, str};
 
 // The most bytes of a path: a case's name has fewer by far.
 const PATH: usize = 64;
@@ -20,28 +21,34 @@ fn put(path: &mut [u8], at: usize, bytes: &[u8]) -> usize {
 }
 
 // Opens a file and reads it until it ends or the buffer is full, and says whether it could. `size`, 0 before, is how many bytes came.
-fn read_path(path: &[u8], buffer: &mut [u8], size: &mut usize) -> bool {
-    let fd = os::open_read(path);
-    if fd < 0 {
+fn read_path(rt: &impl Files, path: &[u8], buffer: &mut [u8], size: &mut usize) -> bool {
+    let Ok(name) = str::from_utf8(path) else {
         return false;
-    }
-    let done = input::read_all(fd, buffer, size);
-    libc::close(fd);
-    done
+    };
+    let Ok(mut file) = fs::open(rt, name) else {
+        return false;
+    };
+    input::read_all(&mut file, buffer, size).is_ok()
 }
 
 // Reads the file of a case whose name ends so, and says whether it could; where it could not, that is printed. `size`, 0 before, is how many
 // bytes came.
-pub fn read(name: &[u8], ending: &[u8], buffer: &mut [u8], size: &mut usize) -> bool {
+pub fn read(
+    rt: &(impl Files + Print),
+    name: &[u8],
+    ending: &[u8],
+    buffer: &mut [u8],
+    size: &mut usize,
+) -> io::Result<bool> {
     let mut path = [0u8; PATH];
     let middle = put(&mut path, 0, name);
     let end = put(&mut path, middle, ending);
     let whole = input::first(&path, end);
-    if read_path(whole, buffer, size) {
-        return true;
+    if read_path(rt, whole, buffer, size) {
+        return Ok(true);
     }
-    io::write_all(STDOUT_FILENO, b": the file ");
-    io::write_all(STDOUT_FILENO, whole);
-    io::write_all(STDOUT_FILENO, b" cannot be read\n");
-    false
+    rt.write_all(b": the file ")?;
+    rt.write_all(whole)?;
+    rt.write_all(b" cannot be read\n")?;
+    Ok(false)
 }

@@ -8,7 +8,8 @@ mod files;
 
 ghost use Rattle.std.specs.Prelude.{◌≤◌, length};
 
-use libc::STDOUT_FILENO;
+use std::io;
+use std::rt::Files;
 
 // Room for the answers of any case: as many bytes, and room for one event more.
 const ANSWERS: usize = 65536 + recording_sizes::EVENT_ROOM;
@@ -30,50 +31,46 @@ fn replay(mem: &mut [u8], recording: &[u8], out: &mut [u8]) -> usize {
 }
 
 // Replays a recording, prints whether its answers are as expected or what differs, and says whether they are.
-fn replays_to(recording: &[u8], expected: &[u8]) -> bool {
+fn replays_to(rt: &impl Print, recording: &[u8], expected: &[u8]) -> io::Result<bool> {
     let mut mem = [0u8; box_places::BOX];
     let mut out = [0u8; ANSWERS];
     let length = replay(&mut mem, recording, &mut out);
     let answers = input::first(&out, length);
-    if check::same(answers, expected) {
-        io::write_all(STDOUT_FILENO, b": as expected\n");
-        return true;
+    if answers == expected {
+        rt.write_all(b": as expected\n")?;
+        return Ok(true);
     }
-    difference::print(answers, expected);
-    false
+    difference::print(rt, answers, expected)?;
+    Ok(false)
 }
 
 // Runs the case of a name, prints what came of it, and says whether its answers are as expected.
-fn agrees(name: &[u8]) -> bool {
-    io::write_all(STDOUT_FILENO, name);
+fn agrees(rt: &(impl Files + Print), name: &[u8]) -> io::Result<bool> {
+    rt.write_all(name)?;
     let mut recording = [0u8; input::READ];
     let mut size = 0;
-    if !files::read(name, b".rec", &mut recording, &mut size) {
-        return false;
+    if !files::read(rt, name, b".rec", &mut recording, &mut size)? {
+        return Ok(false);
     }
     let mut expected = [0u8; ANSWERS];
     let mut length = 0;
-    if !files::read(name, b".out", &mut expected, &mut length) {
-        return false;
+    if !files::read(rt, name, b".out", &mut expected, &mut length)? {
+        return Ok(false);
     }
     replays_to(
+        rt,
         input::first(&recording, size),
         input::first(&expected, length),
     )
 }
 
-// How many cases agree, and of how many. Where the output failed at some line, it fails at this one too, and that is said; so is that some
-// case does not agree.
-fn count(agree: usize, cases: usize) {
-    io::print_decimal(STDOUT_FILENO, agree as u64);
-    io::write_all(STDOUT_FILENO, b" of ");
-    io::print_decimal(STDOUT_FILENO, cases as u64);
-    if !io::write_all(STDOUT_FILENO, b" agree\n") {
-        os::fail(b"cases: standard output");
-    }
+// How many cases agree, and of how many. Where some case does not agree, that is said too.
+fn count(rt: &(impl Print + Eprint), agree: usize, cases: usize) -> io::Result<()> {
+    println!(rt; "{agree} of {cases} agree")?;
     if agree < cases {
-        io::write_all(libc::STDERR_FILENO, b"cases: not all agree\n");
+        eprintln!(rt; "cases: not all agree")?;
     }
+    Ok(())
 }
 
 // Where the name that starts at a place ends: at the next space, or at the end of all.
@@ -91,33 +88,34 @@ fn name_end(names: &[u8], at: usize) -> usize
     end
 }
 
-// Runs the cases whose names stand in a row with a space between them, and counts them.
-fn run(names: &[u8]) {
+// Runs the cases whose names stand in a row with a space between them, and counts them; or says why it could not write.
+fn run(rt: &(impl Files + Print + Eprint), names: &[u8]) -> io::Result<()> {
     let mut cases = 0;
     let mut agree = 0;
     let mut at = 0;
     while at < names.len() {
         let end = name_end(names, at);
-        if agrees(&names[at..end]) {
+        if agrees(rt, &names[at..end])? {
             agree += 1;
         }
         cases += 1;
         at = end + 1;
     }
-    count(agree, cases);
+    count(rt, agree, cases)
 }
 
 // Runs every case: those that the scope names, then those of recordings as such, connecting, starting filters, matching, the queue, writing,
 // taking, ISO 15765 channels, the longest recordings, editions, and listeners.
-fn main() {
-    run(
+fn main(rt: HostRuntime) -> io::Result<()> {
+    let done = run(
+        &rt,
         b"whole-example lost-full-read periodic-case \
         empty bad-cut-record bad-event-17 bad-long-form bad-number-2-32 n-64 n-65-read \
         connect-four p3-connect-order configuration channel-0x02 \
         filter-numbers filter-order filter-widths \
         filter-block filter-pattern-unmasked filter-short-frame p1-short-frame p1-block frame-order width-800 \
         read-codes lost-read-of-0 loopback four-channels \
-        write_counts write-bad-without-room \
+        write-counts write-bad-without-room \
         periodic-from-start take-order clear-kinds \
         p3-connect p3-closed p3-filter-codes p3-filter-unique p3-write-codes \
         p3-single p3-receive p3-send p3-longest-sent p3-overflow \
@@ -130,4 +128,8 @@ fn main() {
         p12-size-32768 p12-overlong \
         p14-listener p14-protocol-6",
     );
+    if let Err(e) = done {
+        return eprintln!(rt; "cases: standard output: {e}");
+    }
+    Ok(())
 }

@@ -1,50 +1,47 @@
 // A recording from standard input or a file.
 #![tactic(auto)]
 
-ghost use Rattle.std.specs.Prelude.{◌≡◌, take};
+ghost use Rattle.std.specs.Prelude.{◌≡◌, ◌≤◌, ◌<◌, length, take, IfOk, IfSome};
+
+use std::io;
+use std::io::{ErrorKind, Read};
 
 // One byte more than a recording may have: it tells an overlong one, and nothing past it is read.
 pub const READ: usize = recording_sizes::LONGEST + 1;
 
-// Where one read more leaves the input: so many bytes are there, or it has ended, or it could not be read.
+// Where one read more leaves the input: so many bytes are there, or it has ended.
 #[derive(Drop)]
 enum Input {
     More(usize),
     Ended,
-    Failed,
 }
 
 // Reads once behind the first `at` bytes. A read that a signal interrupted has read nothing, and can be tried again.
-fn read_more(fd: i32, buffer: &mut [u8], at: usize) -> Input {
+fn read_more<R: Read>(reader: &mut R, buffer: &mut [u8], at: usize) -> io::Result<Input> {
     if at >= buffer.len() {
-        return Input::Ended;
+        return Ok(Input::Ended);
     }
-    let got = libc::read(fd, &mut buffer[at..]);
-    if got > 0 {
-        let n = io::count(got, &buffer[at..]);
-        return Input::More(at + n);
+    match reader.read(&mut buffer[at..]) {
+        Ok(0) => Ok(Input::Ended),
+        Ok(n) => Ok(Input::More(at + n)),
+        Err(e) => {
+            if e.kind() == ErrorKind::Interrupted {
+                return Ok(Input::More(at));
+            }
+            Err(e)
+        }
     }
-    if got == 0 {
-        return Input::Ended;
-    }
-    if os::errno() == libc::EINTR {
-        return Input::More(at);
-    }
-    Input::Failed
 }
 
-// Reads a descriptor until its input ends or the buffer is full, and says whether it could. `size`, 0 before, is how many bytes came.
-pub fn read_all(fd: i32, buffer: &mut [u8], size: &mut usize) -> bool {
-    let mut turns = u64::MAX;
-    while turns > 0 {
-        match read_more(fd, buffer, *size) {
+// Reads until the input ends or the buffer is full, or says why it could not. `size`, 0 before, is how many bytes came.
+pub fn read_all<R: Read>(reader: &mut R, buffer: &mut [u8], size: &mut usize) -> io::Result<()> {
+    for _ in 0..u64::MAX {
+        match read_more(reader, buffer, *size)? {
             Input::More(n) => *size = n,
-            Input::Ended => return true,
-            Input::Failed => return false,
+            Input::Ended => return Ok(()),
         }
-        turns -= 1;
     }
-    false
+    Err(io::Error::from(ErrorKind::Other))
 }
 
 // The first n bytes, or all where there are fewer.

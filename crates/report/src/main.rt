@@ -6,30 +6,30 @@ ghost use Rattle.std.specs.Prelude.{◌≡◌, ◌<◌, length};
 ghost use Rattle.machine.specs.Limits.{lines};
 ghost use Rattle.shift_places.specs.Places.{of_report};
 
-use libc::{STDERR_FILENO, STDOUT_FILENO};
 use shift_places::CHANNEL;
+use std::io;
 
-// Writes a channel's line: its number and its eleven numbers, one space between; says whether it could.
-fn write_line(numbers: &[u32], line: usize) -> bool
+// Writes a channel's line: its number and its eleven numbers, one space between; or says why it could not.
+fn write_line(out: &impl Print, numbers: &[u32], line: usize) -> io::Result<()>
     requires { (length numbers.now ≡ of_report) × (line < lines) }
 {
-    let mut could = io::print_decimal(STDOUT_FILENO, line as u64 + 1);
+    let channel = line + 1;
+    print!(out; "{channel}")?;
     for which in 0..CHANNEL {
-        could = could & io::write_all(STDOUT_FILENO, b" ");
-        could = could & io::print_decimal(STDOUT_FILENO, numbers[line * CHANNEL + which] as u64);
+        let n = numbers[line * CHANNEL + which];
+        print!(out; " {n}")?;
     }
-    could & io::write_all(STDOUT_FILENO, b"\n")
+    out.write_all(b"\n")
 }
 
-// Writes the line of each channel; says whether it could.
-fn write_lines(numbers: &[u32]) -> bool
+// Writes the line of each channel, or says why it could not.
+fn write_lines(out: &impl Print, numbers: &[u32]) -> io::Result<()>
     requires { length numbers.now ≡ of_report }
 {
-    let mut could = true;
     for line in 0..places::LINES {
-        could = could & write_line(numbers, line);
+        write_line(out, numbers, line)?;
     }
-    could
+    Ok(())
 }
 
 // The 44 numbers of a recording.
@@ -40,24 +40,22 @@ fn numbers_of(recording: &[u8]) -> [u32; shift_places::REPORT] {
     numbers
 }
 
-// Reports a recording and writes the report; says whether it could.
-fn tell(recording: &[u8]) -> bool {
+// Reports a recording and writes the report, or says why it could not.
+fn tell(out: &impl Print, recording: &[u8]) -> io::Result<()> {
     let numbers = numbers_of(recording);
-    write_lines(&numbers)
+    write_lines(out, &numbers)
 }
 
 // Reads the recording, reports it, and says what is wrong with it.
-fn main() {
+fn main(rt: HostRuntime) -> io::Result<()> {
     let mut buffer = [0u8; input::READ];
     let mut size = 0;
-    if !input::read_all(libc::STDIN_FILENO, &mut buffer, &mut size) {
-        os::fail(b"report: standard input");
-        return;
+    if let Err(e) = input::read_all(&mut rt.stdin(), &mut buffer, &mut size) {
+        return eprintln!(rt; "report: standard input: {e}");
     }
     let recording = input::first(&buffer, size);
-    if tell(recording) {
-        fault_words::complain(STDERR_FILENO, b"report: bad recording: ", recording);
-    } else {
-        os::fail(b"report: standard output");
+    if let Err(e) = tell(&rt, recording) {
+        return eprintln!(rt; "report: standard output: {e}");
     }
+    fault_words::complain(&rt.stderr(), b"report: bad recording: ", recording)
 }

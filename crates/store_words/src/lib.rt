@@ -1,9 +1,10 @@
-// A saved set-up in words on standard output, a line for each filter and periodic. It is one that a check has taken; of other bytes come words too,
+// A saved set_up in words, a line for each filter and periodic. It is one that a check has taken; of other bytes come words too,
 // which mean nothing.
 #![tactic(auto)]
 
 use number::Number;
 use places::{DATA_IN, RECORD};
+use std::io;
 use trace_words::{byte_at, bytes, hex, number, part, text};
 
 // A number of a store, and the place after it.
@@ -81,11 +82,11 @@ fn data(record: &[u8], from: usize) -> &[u8] {
 }
 
 // The width of a clean record: the second byte of its TxFlags.
-fn width(record: &[u8]) {
+fn width(out: &impl Print, record: &[u8]) -> io::Result<()> {
     if byte_at(record, places::TX_FLAGS_IN + 1) == 1 {
-        text(b", wide");
+        text(out, b", wide")
     } else {
-        text(b", narrow");
+        text(out, b", narrow")
     }
 }
 
@@ -96,104 +97,104 @@ fn identifier(f: &[u8]) -> u32 {
 }
 
 // What a filter does with the frames that it matches.
-fn kind(n: u32) {
+fn kind(out: &impl Print, n: u32) -> io::Result<()> {
     if n == 1 {
-        text(b": pass");
+        text(out, b": pass")
     } else {
-        text(b": block");
+        text(out, b": block")
     }
 }
 
 // The line of the filter at a place, where it is to be told; the place after it.
-fn filter(store: &[u8], at: usize, told: bool) -> usize {
+fn filter(out: &impl Print, store: &[u8], at: usize, told: bool) -> io::Result<usize> {
     let n = item_at(store, at);
     let does = item_at(store, n.next);
     let pattern = after_record(store, does.next);
     if told {
         let mask = record_at(store, does.next);
-        number(b"\n  ", n.value);
-        kind(does.value);
-        width(mask);
-        text(b", mask");
-        bytes(data(mask, DATA_IN));
-        text(b", pattern");
-        bytes(data(record_at(store, pattern), DATA_IN));
+        number(out, b"\n  ", n.value)?;
+        kind(out, does.value)?;
+        width(out, mask)?;
+        text(out, b", mask")?;
+        bytes(out, data(mask, DATA_IN))?;
+        text(out, b", pattern")?;
+        bytes(out, data(record_at(store, pattern), DATA_IN))?;
     }
-    after_record(store, pattern)
+    Ok(after_record(store, pattern))
 }
 
 // The line of the periodic at a place, where it is to be told; the place after it.
-fn periodic(store: &[u8], at: usize, told: bool) -> usize {
+fn periodic(out: &impl Print, store: &[u8], at: usize, told: bool) -> io::Result<usize> {
     let n = item_at(store, at);
     let interval = item_at(store, after_record(store, n.next));
     if told {
         let record = record_at(store, n.next);
-        number(b"\n  ", n.value);
-        number(b": every ", interval.value);
-        text(b" ms");
-        width(record);
-        hex(b", identifier 0x", identifier(data(record, DATA_IN)));
-        text(b", data");
-        bytes(data(record, DATA_IN + 4));
+        number(out, b"\n  ", n.value)?;
+        number(out, b": every ", interval.value)?;
+        text(out, b" ms")?;
+        width(out, record)?;
+        hex(out, b", identifier 0x", identifier(data(record, DATA_IN)))?;
+        text(out, b", data")?;
+        bytes(out, data(record, DATA_IN + 4))?;
     }
-    interval.next
+    Ok(interval.next)
 }
 
 // How many of something, on a line of its own.
-fn many(n: u32, name: &[u8]) {
-    number(b"\n", n);
-    text(name);
+fn many(out: &impl Print, n: u32, name: &[u8]) -> io::Result<()> {
+    number(out, b"\n", n)?;
+    text(out, name)?;
     if n != 1 {
-        text(b"s");
+        text(out, b"s")?;
     }
+    Ok(())
 }
 
 // The filters at a place, how many and each on its line, where they are to be told; the place after them.
-fn filters(store: &[u8], at: usize, told: bool) -> usize {
+fn filters(out: &impl Print, store: &[u8], at: usize, told: bool) -> io::Result<usize> {
     let count = count_at(store, at);
     if told {
-        many(count.value, b" filter");
+        many(out, count.value, b" filter")?;
     }
     let mut place = count.next;
     let mut left = count.value;
     while left > 0 {
-        place = filter(store, place, told);
+        place = filter(out, store, place, told)?;
         left -= 1;
     }
-    place
+    Ok(place)
 }
 
 // The periodics at a place, as the filters.
-fn periodics(store: &[u8], at: usize, told: bool) -> usize {
+fn periodics(out: &impl Print, store: &[u8], at: usize, told: bool) -> io::Result<usize> {
     let count = count_at(store, at);
     if told {
-        many(count.value, b" periodic");
+        many(out, count.value, b" periodic")?;
     }
     let mut place = count.next;
     let mut left = count.value;
     while left > 0 {
-        place = periodic(store, place, told);
+        place = periodic(out, store, place, told)?;
         left -= 1;
     }
-    place
+    Ok(place)
 }
 
 // The first line: version, flags, and the rate and loopback, which stand behind the filters and periodics.
-fn head(store: &[u8]) {
+fn head(out: &impl Print, store: &[u8]) -> io::Result<()> {
     let flags = flags_item(store);
-    let rate = item_at(
-        store,
-        periodics(store, filters(store, flags.next, false), false),
-    );
-    number(b"version ", item_at(store, 0).value);
-    trace_words::flags(flags.value);
-    number(b", ", rate.value);
-    number(b" bit/s, loopback ", item_at(store, rate.next).value);
+    let after = filters(out, store, flags.next, false)?;
+    let rate = item_at(store, periodics(out, store, after, false)?);
+    number(out, b"version ", item_at(store, 0).value)?;
+    trace_words::flags(out, flags.value)?;
+    number(out, b", ", rate.value)?;
+    number(out, b" bit/s, loopback ", item_at(store, rate.next).value)
 }
 
 // A store: its first line, its filters and its periodics. The end of the last line is left to the caller.
-pub fn words(store: &[u8]) {
-    head(store);
-    let after = filters(store, flags_item(store).next, true);
-    periodics(store, after, true);
+pub fn words(out: &impl Print, store: &[u8]) -> io::Result<()> {
+    head(out, store)?;
+    let after = filters(out, store, flags_item(store).next, true)?;
+    periodics(out, store, after, true)?;
+    Ok(())
 }

@@ -1,19 +1,21 @@
-// Telegrams in words on standard output: their bytes, numbers, codes and kinds.
+// Telegrams in words: their bytes, numbers, codes and kinds.
 #![tactic(auto)]
 
+use std::io;
+
 // A byte, a space before it.
-fn byte(b: u8) {
-    io::write_all(1, b" ");
-    io::print_hex(1, b as u64, 2);
+fn byte(out: &impl Print, b: u8) -> io::Result<()> {
+    print!(out; " {b:02x}")
 }
 
 // The bytes, a space before each.
-pub fn show(bytes: &[u8]) {
+pub fn show(out: &impl Print, bytes: &[u8]) -> io::Result<()> {
     let mut i = 0;
     while i < bytes.len() {
-        byte(bytes[i]);
+        byte(out, bytes[i])?;
         i += 1;
     }
+    Ok(())
 }
 
 // The first n bytes, or all where there are fewer.
@@ -25,48 +27,45 @@ pub fn first(bytes: &[u8], n: usize) -> &[u8] {
 }
 
 // A number, a space before it.
-pub fn number(n: u32) {
-    io::write_all(1, b" ");
-    io::print_decimal(1, n as u64);
+pub fn number(out: &impl Print, n: u32) -> io::Result<()> {
+    print!(out; " {n}")
 }
 
 // A code, an arrow before it.
-pub fn code(n: u32) {
-    io::write_all(1, b" -> ");
-    io::print_hex(1, n as u64, 2);
+pub fn code(out: &impl Print, n: u32) -> io::Result<()> {
+    print!(out; " -> {n:02x}")
 }
 
 // A kind in words.
-pub fn kind(n: u8) {
+pub fn kind(out: &impl Print, n: u8) -> io::Result<()> {
     match n {
-        0x00 => io::write_all(1, b" data"),
-        0x90 => io::write_all(1, b" acknowledge"),
-        0xA0 => io::write_all(1, b" connection set-up"),
-        0xA1 => io::write_all(1, b" connection acknowledge"),
-        0xA3 => io::write_all(1, b" test"),
-        0xA4 => io::write_all(1, b" break"),
-        0xA8 => io::write_all(1, b" disconnect"),
-        0xC0 => io::write_all(1, b" set-up"),
-        0xD0 => io::write_all(1, b" positive reply"),
-        _ => negative(n),
-    };
+        0x00 => out.write_all(b" data"),
+        0x90 => out.write_all(b" acknowledge"),
+        0xA0 => out.write_all(b" connection set-up"),
+        0xA1 => out.write_all(b" connection acknowledge"),
+        0xA3 => out.write_all(b" test"),
+        0xA4 => out.write_all(b" break"),
+        0xA8 => out.write_all(b" disconnect"),
+        0xC0 => out.write_all(b" set-up"),
+        0xD0 => out.write_all(b" positive reply"),
+        _ => negative(out, n),
+    }
 }
 
 // A negative reply with its own byte.
-fn negative(n: u8) -> bool {
-    io::write_all(1, b" negative reply ");
-    io::print_hex(1, n as u64, 2)
+fn negative(out: &impl Print, n: u8) -> io::Result<()> {
+    print!(out; " negative reply {n:02x}")
 }
 
 // The bytes that a telegram carries.
-pub fn carried(payload: &[u8; 7], n: usize) {
-    io::write_all(1, b"; carries");
-    show(first(payload, n));
+pub fn carried(out: &impl Print, payload: &[u8; 7], n: usize) -> io::Result<()> {
+    out.write_all(b"; carries")?;
+    show(out, first(payload, n))
 }
 
 // All nine bytes of a buffer.
-pub fn show_all(buf: &[u8; 9]) {
-    io::write_all(1, b":");
-    show(buf);
-    io::write_all(1, b"\n");
+pub fn show_all(out: &impl Print, buf: &[u8; 9]) -> io::Result<()> {
+    out.write_all(b":")?;
+    show(out, buf)?;
+    out.write_all(b"\n")
 }

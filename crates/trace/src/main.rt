@@ -1,10 +1,11 @@
-// Shows the recording on standard input in words: each event, what a device answers to it from power-on, and the records of both.
+// Shows the recording on standard input in words: each event, what a device answers to it from power-on, and the records of both. A line on standard error
+// says that the program could not read or write.
 #![tactic(auto)]
 
 use codes::Answer;
 use device::MEMORY;
 use events::{Event, Found, Giving, Plain};
-use libc::STDOUT_FILENO;
+use std::io;
 use trace_words::{part, text};
 
 // The code of an event that is answered by its code alone.
@@ -75,19 +76,19 @@ fn answer(memory: &mut [u8; MEMORY], rates: &[u32], recording: &[u8], e: Giving)
 }
 
 // A read, its answer and the records that it gave.
-fn read(memory: &mut [u8; MEMORY], channel: u32, n: u32) {
+fn read(out: &impl Print, memory: &mut [u8; MEMORY], channel: u32, n: u32) -> io::Result<()> {
     let mut buffer = [0u8; recording_sizes::RECORDS];
-    trace_events::read(channel, n);
+    trace_events::read(out, channel, n)?;
     let answer = device::read(memory, channel, n, &mut buffer);
-    trace_events::given_records(channel, answer, &buffer);
+    trace_events::given_records(out, channel, answer, &buffer)
 }
 
 // A take, its answer and the record to send.
-fn take(memory: &mut [u8; MEMORY], channel: u32) {
+fn take(out: &impl Print, memory: &mut [u8; MEMORY], channel: u32) -> io::Result<()> {
     let mut buffer = [0u8; recording_sizes::ISO_RECORD];
-    trace_events::take(channel);
+    trace_events::take(out, channel)?;
     let code = device::take(memory, channel, &mut buffer);
-    trace_events::taken(channel, code, &buffer);
+    trace_events::taken(out, channel, code, &buffer)
 }
 
 // Is the ISO 15765 channel of a line open?
@@ -100,7 +101,7 @@ fn iso_open(memory: &[u8], line: u32) -> bool {
 }
 
 // What a frame that was accepted is on the ISO 15765 channel of its line, where that is open; nothing of any other event.
-fn heard(memory: &[u8], recording: &[u8], e: Plain) {
+fn heard(out: &impl Print, memory: &[u8], recording: &[u8], e: Plain) -> io::Result<()> {
     if let Plain::Frame {
         line,
         wide: _,
@@ -110,25 +111,43 @@ fn heard(memory: &[u8], recording: &[u8], e: Plain) {
     } = e
     {
         if iso_open(memory, line) {
-            trace_events::heard(recording, e);
+            trace_events::heard(out, recording, e)?;
         }
     }
+    Ok(())
+}
+
+// An event that is answered by its code alone, and its answer.
+fn coded(
+    out: &impl Print,
+    memory: &mut [u8; MEMORY],
+    rates: &[u32],
+    recording: &[u8],
+    asked: Plain,
+) -> io::Result<()> {
+    trace_events::plain(out, recording, asked)?;
+    let code = plain_code(memory, rates, recording, asked);
+    trace_events::coded(out, code)?;
+    if code == codes::STATUS_NOERROR {
+        heard(out, memory, recording, asked)?;
+    }
+    Ok(())
 }
 
 // An event and its answer.
-fn event(memory: &mut [u8; MEMORY], rates: &[u32], recording: &[u8], e: Event) {
+fn event(
+    out: &impl Print,
+    memory: &mut [u8; MEMORY],
+    rates: &[u32],
+    recording: &[u8],
+    e: Event,
+) -> io::Result<()> {
     match e {
-        Event::Code(asked) => {
-            trace_events::plain(recording, asked);
-            let code = plain_code(memory, rates, recording, asked);
-            trace_events::coded(code);
-            if code == codes::STATUS_NOERROR {
-                heard(memory, recording, asked);
-            }
-        }
+        Event::Code(asked) => coded(out, memory, rates, recording, asked),
         Event::Number(asked) => {
-            trace_events::giving(asked);
-            trace_events::numbered(recording, asked, answer(memory, rates, recording, asked));
+            trace_events::giving(out, asked)?;
+            let answer = answer(memory, rates, recording, asked);
+            trace_events::numbered(out, recording, asked, answer)
         }
         Event::Write {
             channel,
@@ -136,24 +155,25 @@ fn event(memory: &mut [u8; MEMORY], rates: &[u32], recording: &[u8], e: Event) {
             from,
             end,
         } => {
-            trace_events::write(channel, n);
+            trace_events::write(out, channel, n)?;
             let list = part(recording, from, end);
-            trace_events::written(channel, device::write(memory, channel, n, list), list);
+            let answer = device::write(memory, channel, n, list);
+            trace_events::written(out, channel, answer, list)
         }
-        Event::Read(channel, n) => read(memory, channel, n),
-        Event::Take(channel) => take(memory, channel),
+        Event::Read(channel, n) => read(out, memory, channel, n),
+        Event::Take(channel) => take(out, memory, channel),
     }
 }
 
 // A bad event, where it is and why.
-fn bad(recording: &[u8], at: usize) {
-    trace_words::bad(at);
-    fault_words::reason(STDOUT_FILENO, recording, fault::event(recording, at));
+fn bad(out: &impl Print, recording: &[u8], at: usize) -> io::Result<()> {
+    trace_words::bad(out, at)?;
+    fault_words::reason(out, recording, fault::event(recording, at))
 }
 
 // Shows the events of a recording behind its mark, each with its answer, up to the end or a bad one. Each has a byte or more, so there are at most
 // as many as bytes.
-fn show(recording: &[u8], rates: &[u32]) {
+fn show(out: &impl Print, recording: &[u8], rates: &[u32]) -> io::Result<()> {
     let mut memory = [0u8; MEMORY];
     device::power_on(&mut memory);
     let mut at = edition::start_of(recording);
@@ -161,54 +181,59 @@ fn show(recording: &[u8], rates: &[u32]) {
     while n < recording.len() {
         n += 1;
         if at >= recording.len() {
-            return;
+            return Ok(());
         }
-        trace_words::line(n);
+        trace_words::line(out, n)?;
         let Found::Good(e, next) = event_reader::read_event(recording, at) else {
-            bad(recording, at);
-            return;
+            return bad(out, recording, at);
         };
-        event(&mut memory, rates, recording, e);
+        event(out, &mut memory, rates, recording, e)?;
         at = next;
     }
+    Ok(())
 }
 
 // Says the edition of a recording, if it has one, and shows its events with the rates of it.
-fn by_edition(recording: &[u8]) {
+fn by_edition(out: &impl Print, recording: &[u8]) -> io::Result<()> {
     if edition::is_marked(recording) {
-        text(b"edition 2: 250000 and 500000 bit/s\n");
-        show(recording, &can::RATES);
+        text(out, b"edition 2: 250000 and 500000 bit/s\n")?;
+        show(out, recording, &can::RATES)
     } else {
-        show(recording, &can::OLD_RATES);
+        show(out, recording, &can::OLD_RATES)
     }
 }
 
 // Shows a recording, or says that there is nothing in it or too much.
-fn whole(recording: &[u8]) {
+fn whole(out: &impl Print, recording: &[u8]) -> io::Result<()> {
     if recording.len() < 1 {
-        text(b"an empty recording\n");
+        text(out, b"an empty recording\n")
     } else if recording.len() >= input::READ {
-        text(b"more than 32768 bytes, which counts as a bad event\n");
+        text(out, b"more than 32768 bytes, which counts as a bad event\n")
     } else {
-        by_edition(recording);
+        by_edition(out, recording)
     }
 }
 
-// The last line. Where the output failed at some line, it fails at this one too, and that is said.
-fn end() {
-    if !io::write_all(STDOUT_FILENO, b"end of the replay\n") {
-        os::fail(b"trace: standard output");
-    }
+// The last line.
+fn end(out: &impl Print) -> io::Result<()> {
+    text(out, b"end of the replay\n")
+}
+
+// Shows a recording, and the last line; or says why it could not.
+fn tell(out: &impl Print, recording: &[u8]) -> io::Result<()> {
+    whole(out, recording)?;
+    end(out)
 }
 
 // Reads the recording and shows it.
-fn main() {
+fn main(rt: HostRuntime) -> io::Result<()> {
     let mut buffer = [0u8; input::READ];
     let mut size = 0;
-    if !input::read_all(libc::STDIN_FILENO, &mut buffer, &mut size) {
-        os::fail(b"trace: standard input");
-        return;
+    if let Err(e) = input::read_all(&mut rt.stdin(), &mut buffer, &mut size) {
+        return eprintln!(rt; "trace: standard input: {e}");
     }
-    whole(input::first(&buffer, size));
-    end();
+    if let Err(e) = tell(&rt, input::first(&buffer, size)) {
+        return eprintln!(rt; "trace: standard output: {e}");
+    }
+    Ok(())
 }

@@ -3,6 +3,7 @@
 
 use codes::Answer;
 use events::{Giving, Plain};
+use std::io;
 use trace_words::{byte_at, bytes, code, hex, named, number, part, records, text, two};
 
 // The number of four bytes, the lowest first.
@@ -27,11 +28,11 @@ fn stored(record: &[u8], at: usize) -> &[u8] {
 }
 
 // What both a message and half a filter have, and the line's end.
-fn fields(record: &[u8]) {
-    hex(b", TxFlags 0x", field(record, 8));
-    number(b", size ", field(record, 16));
-    number(b", protocol ", field(record, 0));
-    text(b"\n");
+fn fields(out: &impl Print, record: &[u8]) -> io::Result<()> {
+    hex(out, b", TxFlags 0x", field(record, 8))?;
+    number(out, b", size ", field(record, 16))?;
+    number(out, b", protocol ", field(record, 0))?;
+    text(out, b"\n")
 }
 
 // The identifier of a message: four bytes, the highest first.
@@ -40,75 +41,76 @@ fn identifier(f: &[u8]) -> u32 {
 }
 
 // A message: its identifier behind a label, its data and its other fields.
-fn message(label: &[u8], record: &[u8]) {
-    hex(label, identifier(part(record, 24, record.len())));
-    text(b", data");
-    bytes(stored(record, 28));
-    number(b", time ", field(record, 12));
-    hex(b" us, RxStatus 0x", field(record, 4));
-    fields(record);
+fn message(out: &impl Print, label: &[u8], record: &[u8]) -> io::Result<()> {
+    hex(out, label, identifier(part(record, 24, record.len())))?;
+    text(out, b", data")?;
+    bytes(out, stored(record, 28))?;
+    number(out, b", time ", field(record, 12))?;
+    hex(out, b" us, RxStatus 0x", field(record, 4))?;
+    fields(out, record)
 }
 
 // A record, behind what it is by its RxStatus where that is told.
-fn record(told: bool, list: &[u8]) {
+fn record(out: &impl Print, told: bool, list: &[u8]) -> io::Result<()> {
     if told {
-        text(b"         ");
-        iso_words::record(field(list, 4));
-        message(b", identifier 0x", list);
+        text(out, b"         ")?;
+        iso_words::record(out, field(list, 4))?;
+        message(out, b", identifier 0x", list)
     } else {
-        message(b"         identifier 0x", list);
+        message(out, b"         identifier 0x", list)
     }
 }
 
 // A record that a take gave: which frame it is, where it is an ISO 15765 channel's.
-fn frame_record(channel: u32, list: &[u8]) {
+fn frame_record(out: &impl Print, channel: u32, list: &[u8]) -> io::Result<()> {
     if recording_sizes::on_iso(channel) {
-        text(b"         ");
-        iso_words::frame(stored(list, 28));
-        message(b", identifier 0x", list);
+        text(out, b"         ")?;
+        iso_words::frame(out, stored(list, 28))?;
+        message(out, b", identifier 0x", list)
     } else {
-        record(false, list);
+        record(out, false, list)
     }
 }
 
 // A filter's mask, pattern or flow: its bytes and its other fields.
-fn half(label: &[u8], record: &[u8]) {
-    text(label);
-    bytes(stored(record, 24));
-    fields(record);
+fn half(out: &impl Print, label: &[u8], record: &[u8]) -> io::Result<()> {
+    text(out, label)?;
+    bytes(out, stored(record, 24))?;
+    fields(out, record)
 }
 
 // The records of a channel, one after the other: lent, or given by it. What a record given is, an ISO 15765 channel tells by its RxStatus.
-fn channel_records(channel: u32, given: bool, list: &[u8]) {
+fn channel_records(out: &impl Print, channel: u32, given: bool, list: &[u8]) -> io::Result<()> {
     let size = recording_sizes::record_on(channel);
     let told = given & recording_sizes::on_iso(channel);
     let mut at = 0;
     while at < list.len() {
-        record(told, part(list, at, at + size));
+        record(out, told, part(list, at, at + size))?;
         at += size;
     }
+    Ok(())
 }
 
 // The width mark of a bus frame.
-fn width(mark: u32) {
+fn width(out: &impl Print, mark: u32) -> io::Result<()> {
     match mark {
-        0 => text(b", narrow"),
-        1 => text(b", wide"),
-        _ => number(b", width mark ", mark),
+        0 => text(out, b", narrow"),
+        1 => text(out, b", wide"),
+        _ => number(out, b", width mark ", mark),
     }
 }
 
 // A bus frame.
-fn frame(line: u32, wide: u32, id: u32, list: &[u8]) {
-    number(b"frame on line ", line);
-    width(wide);
-    hex(b", identifier 0x", id);
-    text(b", data");
-    bytes(list);
+fn frame(out: &impl Print, line: u32, wide: u32, id: u32, list: &[u8]) -> io::Result<()> {
+    number(out, b"frame on line ", line)?;
+    width(out, wide)?;
+    hex(out, b", identifier 0x", id)?;
+    text(out, b", data")?;
+    bytes(out, list)
 }
 
 // What the frame of an event is on an ISO 15765 channel of its line, on a line of its own; nothing of any other event.
-pub fn heard(recording: &[u8], e: Plain) {
+pub fn heard(out: &impl Print, recording: &[u8], e: Plain) -> io::Result<()> {
     if let Plain::Frame {
         line: _,
         wide: _,
@@ -117,99 +119,114 @@ pub fn heard(recording: &[u8], e: Plain) {
         end,
     } = e
     {
-        text(b"         on ISO 15765: ");
-        iso_words::frame(part(recording, from, end));
-        text(b"\n");
+        text(out, b"         on ISO 15765: ")?;
+        iso_words::frame(out, part(recording, from, end))?;
+        text(out, b"\n")?;
     }
+    Ok(())
 }
 
 // A channel and a parameter of it, behind a label.
-fn parameter(label: &[u8], channel: u32, n: u32) {
-    number(label, channel);
-    named(b", parameter ", n, b",DATA_RATE,,LOOPBACK");
+fn parameter(out: &impl Print, label: &[u8], channel: u32, n: u32) -> io::Result<()> {
+    number(out, label, channel)?;
+    named(out, b", parameter ", n, b",DATA_RATE,,LOOPBACK")
 }
 
 // A parameter's new value.
-fn set(channel: u32, n: u32, value: u32) {
-    parameter(b"set channel ", channel, n);
-    number(b" to ", value);
+fn set(out: &impl Print, channel: u32, n: u32, value: u32) -> io::Result<()> {
+    parameter(out, b"set channel ", channel, n)?;
+    number(out, b" to ", value)
 }
 
 // A clear.
-fn clear(channel: u32, kind: u32) {
-    number(b"clear channel ", channel);
+fn clear(out: &impl Print, channel: u32, kind: u32) -> io::Result<()> {
+    number(out, b"clear channel ", channel)?;
     named(
+        out,
         b", kind ",
         kind,
         b",written records,receive queue,periodics,filters",
-    );
+    )
 }
 
 // An advance of the clock.
-fn advance(us: u32) {
-    number(b"advance ", us);
-    text(b" us");
+fn advance(out: &impl Print, us: u32) -> io::Result<()> {
+    number(out, b"advance ", us)?;
+    text(out, b" us")
 }
 
 // An event that is answered by its code alone.
-pub fn plain(recording: &[u8], e: Plain) {
+pub fn plain(out: &impl Print, recording: &[u8], e: Plain) -> io::Result<()> {
     match e {
-        Plain::Disconnect(channel) => number(b"disconnect channel ", channel),
-        Plain::Close => text(b"close"),
-        Plain::Advance(us) => advance(us),
+        Plain::Disconnect(channel) => number(out, b"disconnect channel ", channel),
+        Plain::Close => text(out, b"close"),
+        Plain::Advance(us) => advance(out, us),
         Plain::Frame {
             line,
             wide,
             id,
             from,
             end,
-        } => frame(line, wide, id, part(recording, from, end)),
-        Plain::StopFilter(channel, n) => two(b"stop filter, channel ", channel, b", filter ", n),
+        } => frame(out, line, wide, id, part(recording, from, end)),
+        Plain::StopFilter(channel, n) => two(
+            out,
+            b"stop filter, channel ",
+            channel,
+            b", filter ",
+            n,
+        ),
         Plain::StopPeriodic(channel, n) => {
-            two(b"stop periodic, channel ", channel, b", periodic ", n)
+            two(out, b"stop periodic, channel ", channel, b", periodic ", n)
         }
-        Plain::Sent(channel) => number(b"sent, channel ", channel),
-        Plain::Clear(channel, kind) => clear(channel, kind),
-        Plain::Set(channel, n, value) => set(channel, n, value),
+        Plain::Sent(channel) => number(out, b"sent, channel ", channel),
+        Plain::Clear(channel, kind) => clear(out, channel, kind),
+        Plain::Set(channel, n, value) => set(out, channel, n, value),
     }
 }
 
 // A connect.
-fn connect(line: u32, protocol: u32, flags: u32, rate: u32) {
-    number(b"connect line ", line);
-    named(b", protocol ", protocol, b",,,,,CAN,ISO15765");
-    trace_words::flags(flags);
-    number(b", ", rate);
-    text(b" bit/s");
+fn connect(out: &impl Print, line: u32, protocol: u32, flags: u32, rate: u32) -> io::Result<()> {
+    number(out, b"connect line ", line)?;
+    named(out, b", protocol ", protocol, b",,,,,CAN,ISO15765")?;
+    trace_words::flags(out, flags)?;
+    number(out, b", ", rate)?;
+    text(out, b" bit/s")
 }
 
 // A start of a filter.
-fn start_filter(channel: u32, kind: u32) {
-    number(b"start filter, channel ", channel);
+fn start_filter(out: &impl Print, channel: u32, kind: u32) -> io::Result<()> {
+    number(out, b"start filter, channel ", channel)?;
     named(
+        out,
         b", type ",
         kind,
         b",PASS_FILTER,BLOCK_FILTER,FLOW_CONTROL_FILTER",
-    );
+    )
 }
 
 // A start of a periodic.
-fn start_periodic(channel: u32, interval: u32) {
-    two(b"start periodic, channel ", channel, b", every ", interval);
-    text(b" ms");
+fn start_periodic(out: &impl Print, channel: u32, interval: u32) -> io::Result<()> {
+    two(
+        out,
+        b"start periodic, channel ",
+        channel,
+        b", every ",
+        interval,
+    )?;
+    text(out, b" ms")
 }
 
 // An event that is answered by a number too.
-pub fn giving(e: Giving) {
+pub fn giving(out: &impl Print, e: Giving) -> io::Result<()> {
     match e {
-        Giving::Connect(line, protocol, flags, rate) => connect(line, protocol, flags, rate),
+        Giving::Connect(line, protocol, flags, rate) => connect(out, line, protocol, flags, rate),
         Giving::StartFilter {
             channel,
             kind,
             mask: _,
             pattern: _,
             end: _,
-        } => start_filter(channel, kind),
+        } => start_filter(out, channel, kind),
         Giving::StartFlow {
             channel,
             kind,
@@ -217,21 +234,21 @@ pub fn giving(e: Giving) {
             pattern: _,
             flow: _,
             end: _,
-        } => start_filter(channel, kind),
+        } => start_filter(out, channel, kind),
         Giving::StartPeriodic {
             channel,
             from: _,
             end: _,
             interval,
-        } => start_periodic(channel, interval),
-        Giving::Get(channel, n) => parameter(b"get channel ", channel, n),
+        } => start_periodic(out, channel, interval),
+        Giving::Get(channel, n) => parameter(out, b"get channel ", channel, n),
     }
 }
 
 // The records that such an event lends, a line each.
-fn lent(recording: &[u8], e: Giving) {
+fn lent(out: &impl Print, recording: &[u8], e: Giving) -> io::Result<()> {
     match e {
-        Giving::Connect(_, _, _, _) => (),
+        Giving::Connect(_, _, _, _) => Ok(()),
         Giving::StartFilter {
             channel: _,
             kind: _,
@@ -239,8 +256,8 @@ fn lent(recording: &[u8], e: Giving) {
             pattern,
             end,
         } => {
-            half(b"         mask", part(recording, mask, pattern));
-            half(b"         pattern", part(recording, pattern, end));
+            half(out, b"         mask", part(recording, mask, pattern))?;
+            half(out, b"         pattern", part(recording, pattern, end))
         }
         Giving::StartFlow {
             channel: _,
@@ -250,43 +267,43 @@ fn lent(recording: &[u8], e: Giving) {
             flow,
             end,
         } => {
-            half(b"         mask", part(recording, mask, pattern));
-            half(b"         pattern", part(recording, pattern, flow));
-            half(b"         flow", part(recording, flow, end));
+            half(out, b"         mask", part(recording, mask, pattern))?;
+            half(out, b"         pattern", part(recording, pattern, flow))?;
+            half(out, b"         flow", part(recording, flow, end))
         }
         Giving::StartPeriodic {
             channel,
             from,
             end,
             interval: _,
-        } => channel_records(channel, false, part(recording, from, end)),
-        Giving::Get(_, _) => (),
+        } => channel_records(out, channel, false, part(recording, from, end)),
+        Giving::Get(_, _) => Ok(()),
     }
 }
 
 // A code behind an arrow.
-fn arrow(n: u32) {
-    text(b" -> ");
-    code(n);
+fn arrow(out: &impl Print, n: u32) -> io::Result<()> {
+    text(out, b" -> ")?;
+    code(out, n)
 }
 
 // The answer to an event that is answered by its code alone.
-pub fn coded(n: u32) {
-    arrow(n);
-    text(b"\n");
+pub fn coded(out: &impl Print, n: u32) -> io::Result<()> {
+    arrow(out, n)?;
+    text(out, b"\n")
 }
 
 // The number that such an event gives where it is done.
-fn given(e: Giving, value: u32) {
+fn given(out: &impl Print, e: Giving, value: u32) -> io::Result<()> {
     match e {
-        Giving::Connect(_, _, _, _) => number(b", channel ", value),
+        Giving::Connect(_, _, _, _) => number(out, b", channel ", value),
         Giving::StartFilter {
             channel: _,
             kind: _,
             mask: _,
             pattern: _,
             end: _,
-        } => number(b", filter ", value),
+        } => number(out, b", filter ", value),
         Giving::StartFlow {
             channel: _,
             kind: _,
@@ -294,72 +311,79 @@ fn given(e: Giving, value: u32) {
             pattern: _,
             flow: _,
             end: _,
-        } => number(b", filter ", value),
+        } => number(out, b", filter ", value),
         Giving::StartPeriodic {
             channel: _,
             from: _,
             end: _,
             interval: _,
-        } => number(b", periodic ", value),
-        Giving::Get(_, _) => number(b", value ", value),
+        } => number(out, b", periodic ", value),
+        Giving::Get(_, _) => number(out, b", value ", value),
     }
 }
 
 // The answer to an event that is answered by a number too, and the records that it lends.
-pub fn numbered(recording: &[u8], e: Giving, answer: Answer) {
-    arrow(answer.code);
+pub fn numbered(out: &impl Print, recording: &[u8], e: Giving, answer: Answer) -> io::Result<()> {
+    arrow(out, answer.code)?;
     if answer.code == codes::STATUS_NOERROR {
-        given(e, answer.value);
+        given(out, e, answer.value)?;
     }
-    text(b"\n");
-    lent(recording, e);
+    text(out, b"\n")?;
+    lent(out, recording, e)
 }
 
 // The code of a read or a write, and how many records it gave or took.
-fn counted(answer: Answer) {
-    arrow(answer.code);
-    records(b", ", answer.value);
-    text(b"\n");
+fn counted(out: &impl Print, answer: Answer) -> io::Result<()> {
+    arrow(out, answer.code)?;
+    records(out, b", ", answer.value)?;
+    text(out, b"\n")
 }
 
 // A write.
-pub fn write(channel: u32, n: u32) {
-    number(b"write channel ", channel);
-    records(b", ", n);
+pub fn write(out: &impl Print, channel: u32, n: u32) -> io::Result<()> {
+    number(out, b"write channel ", channel)?;
+    records(out, b", ", n)
 }
 
 // The answer to a write on a channel, and its records.
-pub fn written(channel: u32, answer: Answer, list: &[u8]) {
-    counted(answer);
-    channel_records(channel, false, list);
+pub fn written(out: &impl Print, channel: u32, answer: Answer, list: &[u8]) -> io::Result<()> {
+    counted(out, answer)?;
+    channel_records(out, channel, false, list)
 }
 
 // A read.
-pub fn read(channel: u32, n: u32) {
-    number(b"read channel ", channel);
-    records(b", ", n);
+pub fn read(out: &impl Print, channel: u32, n: u32) -> io::Result<()> {
+    number(out, b"read channel ", channel)?;
+    records(out, b", ", n)
 }
 
 // The answer to a read of a channel, and the records that it gave.
-pub fn given_records(channel: u32, answer: Answer, buffer: &[u8]) {
-    counted(answer);
+pub fn given_records(
+    out: &impl Print,
+    channel: u32,
+    answer: Answer,
+    buffer: &[u8],
+) -> io::Result<()> {
+    counted(out, answer)?;
     let size = recording_sizes::record_on(channel);
     let list = input::first(buffer, answer.value as usize * size);
-    channel_records(channel, true, list);
+    channel_records(out, channel, true, list)
 }
 
 // A take.
-pub fn take(channel: u32) {
-    number(b"take, channel ", channel);
+pub fn take(out: &impl Print, channel: u32) -> io::Result<()> {
+    number(out, b"take, channel ", channel)
 }
 
 // The answer to a take of a channel, and the record to send.
-pub fn taken(channel: u32, n: u32, buffer: &[u8]) {
-    coded(n);
+pub fn taken(out: &impl Print, channel: u32, n: u32, buffer: &[u8]) -> io::Result<()> {
+    coded(out, n)?;
     if n == codes::STATUS_NOERROR {
         frame_record(
+            out,
             channel,
             input::first(buffer, recording_sizes::record_on(channel)),
-        );
+        )?;
     }
+    Ok(())
 }

@@ -1,6 +1,7 @@
 // Worked telegrams as bytes, and a line for what the reader, the naming and the writer make of each.
 #![tactic(auto)]
 
+use std::io;
 use telegram_words::{carried, code, first, kind, number, show};
 use tp20::{Taken, Telegram};
 
@@ -65,49 +66,48 @@ const OPENINGS: [[u8; 11]; 24] = [
 ];
 
 // The kind and the fields of a telegram, and what it carries.
-fn named(opening: bool, identifier: u32, bytes: &[u8]) {
+fn named(out: &impl Print, opening: bool, identifier: u32, bytes: &[u8]) -> io::Result<()> {
     let name = tp20::name(opening, identifier, bytes);
-    kind(name.kind);
+    kind(out, name.kind)?;
     let fields = name.fields;
-    number(fields[0]);
-    number(fields[1]);
-    number(fields[2]);
-    number(fields[3]);
-    number(fields[4]);
+    number(out, fields[0])?;
+    number(out, fields[1])?;
+    number(out, fields[2])?;
+    number(out, fields[3])?;
+    number(out, fields[4])?;
     let payload = name.payload;
-    carried(&payload, name.len);
+    carried(out, &payload, name.len)
 }
 
 // What the writer makes of a telegram that was read.
-fn again(telegram: Telegram, payload: &[u8; 7], n: usize) {
+fn again(out: &impl Print, telegram: Telegram, payload: &[u8; 7], n: usize) -> io::Result<()> {
     let mut buf = [0u8; 8];
     let written = tp20::write(telegram, first(payload, n), &mut buf);
-    io::write_all(1, b"; again");
-    show(first(&buf, written.len));
+    out.write_all(b"; again")?;
+    show(out, first(&buf, written.len))
 }
 
 // Reads the bytes and prints what is found; what is taken is written again.
-fn read(opening: bool, identifier: u32, bytes: &[u8]) {
+fn read(out: &impl Print, opening: bool, identifier: u32, bytes: &[u8]) -> io::Result<()> {
     let answer = tp20::read(opening, identifier, bytes);
-    code(answer.code);
+    code(out, answer.code)?;
     let taken = answer.taken;
     let Taken::Yes(telegram) = taken else {
-        io::write_all(1, b"\n");
-        return;
+        return out.write_all(b"\n");
     };
-    named(opening, identifier, bytes);
+    named(out, opening, identifier, bytes)?;
     let payload = answer.payload;
-    again(telegram, &payload, answer.len);
-    io::write_all(1, b"\n");
+    again(out, telegram, &payload, answer.len)?;
+    out.write_all(b"\n")
 }
 
 // Runs a row of the telegrams on a channel.
-fn on_channel(row: [u8; 10]) {
+fn on_channel(out: &impl Print, row: [u8; 10]) -> io::Result<()> {
     let n = row[0] as usize;
     let bytes = first(&row[1..10], n);
-    io::write_all(1, b"channel");
-    show(bytes);
-    read(false, 0, bytes);
+    out.write_all(b"channel")?;
+    show(out, bytes)?;
+    read(out, false, 0, bytes)
 }
 
 // The number of two bytes, the higher one first.
@@ -116,31 +116,32 @@ fn pair(high: u8, low: u8) -> u32 {
 }
 
 // Runs a row of the opening telegrams.
-fn opening(row: [u8; 11]) {
+fn opening(out: &impl Print, row: [u8; 11]) -> io::Result<()> {
     let identifier = pair(row[0], row[1]);
     let n = row[2] as usize;
     let bytes = first(&row[3..11], n);
-    io::write_all(1, b"opening ");
-    io::print_hex(1, identifier as u64, 3);
-    io::write_all(1, b":");
-    show(bytes);
-    read(true, identifier, bytes);
+    print!(out; "opening {identifier:03x}:")?;
+    show(out, bytes)?;
+    read(out, true, identifier, bytes)
 }
 
 // Runs the i-th case of both tables.
-fn case(i: usize) {
+fn case(out: &impl Print, i: usize) -> io::Result<()> {
     if i < 28 {
-        on_channel(ON_CHANNEL[i]);
+        on_channel(out, ON_CHANNEL[i])
     } else if i < 52 {
-        opening(OPENINGS[i - 28]);
+        opening(out, OPENINGS[i - 28])
+    } else {
+        Ok(())
     }
 }
 
 // Runs both tables.
-pub fn reads() {
+pub fn reads(out: &impl Print) -> io::Result<()> {
     let mut i = 0;
     while i < 52 {
-        case(i);
+        case(out, i)?;
         i += 1;
     }
+    Ok(())
 }

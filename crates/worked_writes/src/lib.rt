@@ -1,6 +1,7 @@
 // Worked telegrams as values, on a channel and opening ones, and a line for what the writer makes of each.
 #![tactic(auto)]
 
+use std::io;
 use telegram_words::{code, show_all};
 use tp20::{OnChannel, Opening, Telegram, Written};
 
@@ -13,52 +14,69 @@ fn into(telegram: Telegram, carried: &[u8], buf: &mut [u8], n: usize) -> Written
 }
 
 // Writes a telegram into the first n of nine bytes, and prints all nine.
-pub fn write(label: &[u8], telegram: Telegram, carried: &[u8], n: usize) {
+pub fn write(
+    out: &impl Print,
+    label: &[u8],
+    telegram: Telegram,
+    carried: &[u8],
+    n: usize,
+) -> io::Result<()> {
     let mut buf = [0xEEu8; 9];
     let written = into(telegram, carried, &mut buf, n);
-    io::write_all(1, b"write ");
-    io::write_all(1, label);
-    io::write_all(1, b" into ");
-    io::print_decimal(1, n as u64);
-    code(written.code);
-    io::write_all(1, b" ");
-    io::print_decimal(1, written.len as u64);
-    show_all(&buf);
+    out.write_all(b"write ")?;
+    out.write_all(label)?;
+    print!(out; " into {n}")?;
+    code(out, written.code)?;
+    let len = written.len;
+    print!(out; " {len}")?;
+    show_all(out, &buf)
 }
 
 // Data with the bytes that they carry.
-fn data(label: &[u8], asks: bool, last: bool, sn: u8, carried: &[u8], n: usize) {
+fn data(
+    out: &impl Print,
+    label: &[u8],
+    asks: bool,
+    last: bool,
+    sn: u8,
+    carried: &[u8],
+    n: usize,
+) -> io::Result<()> {
     write(
+        out,
         label,
         Telegram::Channel(OnChannel::Data { asks, last, sn }),
         carried,
         n,
-    );
+    )
 }
 
 // An acknowledge.
-fn acknowledge(label: &[u8], ready: bool, sn: u8) {
+fn acknowledge(out: &impl Print, label: &[u8], ready: bool, sn: u8) -> io::Result<()> {
     write(
+        out,
         label,
         Telegram::Channel(OnChannel::Acknowledge { ready, sn }),
         b"",
         8,
-    );
+    )
 }
 
 // A connection telegram of ours, with T1 100 ms and T3 5 ms.
-fn connection(label: &[u8], ack: bool, block_size: u8) {
+fn connection(out: &impl Print, label: &[u8], ack: bool, block_size: u8) -> io::Result<()> {
     write(
+        out,
         label,
         Telegram::Channel(own_telegrams::connection(ack, block_size, 0x8A, 0x32)),
         b"",
         8,
-    );
+    )
 }
 
 // A module's connection acknowledge, with T1 100 ms, T3 5 ms and its own T2 and T4.
-fn from_module(label: &[u8], t2: u8, t4: u8) {
+fn from_module(out: &impl Print, label: &[u8], t2: u8, t4: u8) -> io::Result<()> {
     write(
+        out,
         label,
         Telegram::Channel(OnChannel::Connection {
             ack: true,
@@ -70,52 +88,62 @@ fn from_module(label: &[u8], t2: u8, t4: u8) {
         }),
         b"",
         8,
-    );
+    )
 }
 
 // Telegrams written on a channel; the bytes beside a disconnect are no part of it.
-pub fn writes_on_channel() {
-    write(b"test", Telegram::Channel(OnChannel::Test), b"", 8);
-    write(b"test", Telegram::Channel(OnChannel::Test), b"", 7);
-    write(b"break", Telegram::Channel(OnChannel::Break), b"", 9);
+pub fn writes_on_channel(out: &impl Print) -> io::Result<()> {
+    write(out, b"test", Telegram::Channel(OnChannel::Test), b"", 8)?;
+    write(out, b"test", Telegram::Channel(OnChannel::Test), b"", 7)?;
+    write(out, b"break", Telegram::Channel(OnChannel::Break), b"", 9)?;
     write(
+        out,
         b"disconnect, bytes beside it,",
         Telegram::Channel(OnChannel::Disconnect),
         b"99",
         8,
-    );
+    )?;
     data(
+        out,
         b"data, 7 bytes,",
         true,
         true,
         15,
         b"\x01\x02\x03\x04\x05\x06\x07",
         9,
-    );
-    data(b"data, no bytes,", false, false, 0, b"", 8);
+    )?;
+    data(out, b"data, no bytes,", false, false, 0, b"", 8)?;
     data(
+        out,
         b"data, 8 bytes,",
         false,
         false,
         0,
         b"\x01\x02\x03\x04\x05\x06\x07\x08",
         9,
-    );
-    data(b"data, SN 16,", true, true, 16, b"", 8);
-    data(b"data, SN 16,", true, true, 16, b"", 7);
-    acknowledge(b"acknowledge, not ready,", false, 3);
-    acknowledge(b"acknowledge, SN 16,", true, 16);
-    connection(b"connection acknowledge", true, 1);
-    connection(b"connection set-up, block size 0,", false, 0);
-    connection(b"connection set-up, block size 16,", false, 16);
-    connection(b"connection set-up", false, 15);
-    from_module(b"connection acknowledge, T2 01, T4 02,", 0x01, 0x02);
-    from_module(b"connection acknowledge, T2 00, T4 fe,", 0x00, 0xFE);
+    )?;
+    data(out, b"data, SN 16,", true, true, 16, b"", 8)?;
+    data(out, b"data, SN 16,", true, true, 16, b"", 7)?;
+    acknowledge(out, b"acknowledge, not ready,", false, 3)?;
+    acknowledge(out, b"acknowledge, SN 16,", true, 16)?;
+    connection(out, b"connection acknowledge", true, 1)?;
+    connection(out, b"connection set-up, block size 0,", false, 0)?;
+    connection(out, b"connection set-up, block size 16,", false, 16)?;
+    connection(out, b"connection set-up", false, 15)?;
+    from_module(out, b"connection acknowledge, T2 01, T4 02,", 0x01, 0x02)?;
+    from_module(out, b"connection acknowledge, T2 00, T4 fe,", 0x00, 0xFE)
 }
 
-// A set-up for diagnostics.
-fn set_up(label: &[u8], identifier: u32, destination: u8, rx_id: u16) {
+// A set_up for diagnostics.
+fn set_up(
+    out: &impl Print,
+    label: &[u8],
+    identifier: u32,
+    destination: u8,
+    rx_id: u16,
+) -> io::Result<()> {
     write(
+        out,
         label,
         Telegram::Opening(
             identifier,
@@ -127,12 +155,13 @@ fn set_up(label: &[u8], identifier: u32, destination: u8, rx_id: u16) {
         ),
         b"",
         8,
-    );
+    )
 }
 
 // A positive reply.
-fn positive(label: &[u8], application: u8) {
+fn positive(out: &impl Print, label: &[u8], application: u8) -> io::Result<()> {
     write(
+        out,
         label,
         Telegram::Opening(
             0x201,
@@ -145,12 +174,13 @@ fn positive(label: &[u8], application: u8) {
         ),
         b"",
         8,
-    );
+    )
 }
 
 // A negative reply with the bytes that it carries.
-fn refusal(label: &[u8], kind: u8, carried: &[u8]) {
+fn refusal(out: &impl Print, label: &[u8], kind: u8, carried: &[u8]) -> io::Result<()> {
     write(
+        out,
         label,
         Telegram::Opening(
             0x201,
@@ -161,18 +191,18 @@ fn refusal(label: &[u8], kind: u8, carried: &[u8]) {
         ),
         carried,
         8,
-    );
+    )
 }
 
 // Opening telegrams written.
-pub fn writes_of_openings() {
-    set_up(b"set-up", 0x200, 0x01, 0x300);
-    set_up(b"set-up from 1ff", 0x1FF, 0x01, 0x300);
-    set_up(b"set-up, RX-ID 800,", 0x200, 0x01, 0x800);
-    set_up(b"set-up, destination f0,", 0x200, 0xF0, 0x300);
-    positive(b"positive reply", 0x10);
-    positive(b"positive reply, application 2,", 0x02);
-    refusal(b"negative reply", 0xD8, b"\x01\x02\x03\x04\x05");
-    refusal(b"negative reply, 4 bytes,", 0xD8, b"\x01\x02\x03\x04");
-    refusal(b"negative reply d9", 0xD9, b"\x01\x02\x03\x04\x05");
+pub fn writes_of_openings(out: &impl Print) -> io::Result<()> {
+    set_up(out, b"set-up", 0x200, 0x01, 0x300)?;
+    set_up(out, b"set-up from 1ff", 0x1FF, 0x01, 0x300)?;
+    set_up(out, b"set-up, RX-ID 800,", 0x200, 0x01, 0x800)?;
+    set_up(out, b"set-up, destination f0,", 0x200, 0xF0, 0x300)?;
+    positive(out, b"positive reply", 0x10)?;
+    positive(out, b"positive reply, application 2,", 0x02)?;
+    refusal(out, b"negative reply", 0xD8, b"\x01\x02\x03\x04\x05")?;
+    refusal(out, b"negative reply, 4 bytes,", 0xD8, b"\x01\x02\x03\x04")?;
+    refusal(out, b"negative reply d9", 0xD9, b"\x01\x02\x03\x04\x05")
 }
