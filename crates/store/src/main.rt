@@ -1,4 +1,4 @@
-// Shows the saved set_up on standard input in words: its configuration, its filters and its periodics. A line on standard error says that it is bad
+// Shows the saved set-up on standard input in words: its configuration, its filters and its periodics. A line on standard error says that it is bad
 // and where, and then nothing is shown, why a good one cannot be loaded, or that the program could not read or write.
 #![tactic(auto)]
 

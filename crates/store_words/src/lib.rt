@@ -1,4 +1,4 @@
-// A saved set_up in words, a line for each filter and periodic. It is one that a check has taken; of other bytes come words too,
+// A saved set-up in words, a line for each filter and periodic. It is one that a check has taken; of other bytes come words too,
 // which mean nothing.
 #![tactic(auto)]
 

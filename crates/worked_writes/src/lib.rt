@@ -134,7 +134,7 @@ pub fn writes_on_channel(out: &impl Print) -> io::Result<()> {
     from_module(out, b"connection acknowledge, T2 00, T4 fe,", 0x00, 0xFE)
 }
 
-// A set_up for diagnostics.
+// A set-up for diagnostics.
 fn set_up(
     out: &impl Print,
     label: &[u8],
