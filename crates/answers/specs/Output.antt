@@ -1,6 +1,5 @@
 -- The scope's section "Recording": the bytes of the answer to an event. Assumes nothing.
-use Rattle.std.specs.Prelude.{ℕ, ◌*◌, List, [], ◌++◌, eqb, take}
-use Rattle.codec.specs.Plain.{if◌then◌else◌}
+use Rattle.std.specs.Prelude.{ℕ, ◌*◌, List, [], ◌++◌, eqb, take, if◌then◌else◌}
 use Rattle.recording_sizes.specs.Sizes.{record_on}
 use Rattle.number.specs.Number.{bytes_of}
 use Rattle.machine.specs.Channel.{Call, disconnect, start_filter, start_flow, stop_filter, start_periodic, stop_periodic, write, read, take_next, sent, clear, get_parameter, set_parameter, last_error, get_list, set_list, on_raw, Answer}

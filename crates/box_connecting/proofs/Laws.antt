@@ -1,4 +1,5 @@
 -- Connect on the whole memory, once for both kinds of channel: what code does on the region of a line is what the box does. Assumes nothing.
+use Rattle.std.specs.Prelude.{if◌then◌else◌}
 use mathlib.Core.Path.{◌≡◌, refl, sym, ap, ap₂, ◌∙◌, subst}
 use Prim.Native.Nat.{ℕ, ◌+◌, ◌*◌, ◌-◌, ◌≤◌, ◌<◌}
 use native.Mathlib.Omega.{arith}
@@ -9,7 +10,7 @@ use lib.ListN.{length, get_or, set, take, drop}
 use lib.Dec.{T, eqb, ltb}
 use borrow.Author.Tests.{eq-eqb, ne_eqb, eqb-true, le-ltb}
 use borrow.Rule.Slice.PartMut.{put_mid, mid_of, put_same}
-use Rattle.codec.specs.Plain.{if◌then◌else◌, member}
+use Rattle.codec.specs.Plain.{member}
 use Rattle.codec.proofs.Tests.{T_true}
 use Rattle.machine.specs.Limits.{lines, can_protocol}
 use Rattle.machine.specs.Codes.{code_of}

@@ -1,9 +1,8 @@
 // Connect, on a memory of the whole box that is known to be valid: the protocol tells which of a line's two channels is opened.
 #![tactic(auto)]
 
-ghost use Rattle.std.specs.Prelude.{◌≡◌, List, [], ℕ, ◌<◌, T, eqb};
+ghost use Rattle.std.specs.Prelude.{◌≡◌, List, [], ℕ, ◌<◌, T, eqb, if◌then◌else◌};
 ghost use Rattle.std.proofs.Math.Option.{none};
-ghost use Rattle.codec.specs.Plain.{if◌then◌else◌};
 ghost use Rattle.machine.specs.Limits.{lines, can_protocol};
 ghost use Rattle.machine.specs.Channel.{connect_code};
 ghost use Rattle.machine.specs.Step.{connect as connects};

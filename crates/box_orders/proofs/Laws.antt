@@ -1,5 +1,6 @@
 -- A start filter with a third record and one without: the same where the channel is raw, and where the third record is empty. And the code of a call that
 -- only looks at an ISO 15765 channel can be noted. Assumes nothing.
+use Rattle.std.specs.Prelude.{if◌then◌else◌}
 use mathlib.Core.Path.{◌≡◌, refl, sym, ap, ◌∙◌}
 use Prim.Native.Nat.{ℕ, ◌+◌, ◌-◌, ◌≤◌, ◌<◌}
 use mathlib.Core.Bool.{not, ◌&&◌, ◌||◌}
@@ -10,7 +11,7 @@ use lib.ListN.{length, take, drop_of_length-le}
 use lib.Seq.{take-nil}
 use lib.Dec.{T, eqb, ltb}
 use borrow.Rule.Slice.PartMut.{mid_of}
-use Rattle.codec.specs.Plain.{if◌then◌else◌, within}
+use Rattle.codec.specs.Plain.{within}
 use Rattle.machine.specs.Limits.{lines}
 use Rattle.machine.specs.Channel.{Chan, closed, opened, Call, raw_only, Answer, says, lent, start_filter, start_flow, on_open, on_call, noted}
 use Rattle.machine.specs.Step as raw_step

@@ -1,4 +1,5 @@
 -- Request P11: export then import gives back the frames in order, with the same time at each, and stops nowhere. Assumes nothing.
+use Rattle.std.specs.Prelude.{if◌then◌else◌}
 use Prim.Native.Nat.{ℕ, zero, suc, ◌+◌, ◌-◌, ◌*◌, ◌/◌, ◌%◌, ◌≤◌, ◌<◌}
 use mathlib.Core.Path.{◌≡◌, refl, sym, ap, ap₂, ◌∙◌, subst}
 use mathlib.Core.Logic.{◌⊎◌, inl, inr, ⊎_elim}
@@ -8,7 +9,7 @@ use native.Mathlib.Omega.{arith}
 use borrow.Author.Tests.{eqb-true, eqb-false, eq-eqb, ne_eqb, ltb-true, ltb-false, le-ltb, lt-leb, le-leb}
 use lib.Dec.{eqb, leb, ltb, T}
 use lib.ListN.{length, replicate, length-append}
-use Rattle.codec.specs.Plain.{if◌then◌else◌, all, is_byte}
+use Rattle.codec.specs.Plain.{all, is_byte}
 use Rattle.codec.proofs.Lists.{Each}
 use Rattle.machine.specs.Codes.{code_of, three_rates}
 use Rattle.machine.specs.Limits.{last_line, most_bytes, most_advance}

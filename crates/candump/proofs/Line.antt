@@ -1,4 +1,5 @@
 -- Request P11: a line that was written is read back, and a log is cut into the lines that were written. Assumes nothing.
+use Rattle.std.specs.Prelude.{if◌then◌else◌}
 use Prim.Native.Nat.{ℕ, zero, suc, ◌+◌, ◌-◌, ◌*◌, ◌/◌, ◌%◌, ◌^◌, ◌≤◌, ◌<◌}
 use mathlib.Core.Path.{◌≡◌, refl, sym, ap, ◌∙◌, subst}
 use mathlib.Core.Bool.{Bool, true, false, ◌&&◌}
@@ -9,7 +10,7 @@ use native.Mathlib.Omega.{arith}
 use borrow.Author.Tests.{eq-eqb, ne_eqb, le-leb, lt-ltb, leb-true, ltb-true}
 use lib.Dec.{eqb, leb, ltb, T, leb→le, ltb→lt, le→leb, lt→ltb}
 use lib.ListN.{length}
-use Rattle.codec.specs.Plain.{if◌then◌else◌, within, all, is_byte}
+use Rattle.codec.specs.Plain.{within, all, is_byte}
 use Rattle.codec.proofs.Lists.{all_append}
 use Rattle.codec.proofs.Tests.{left, right, join, between, within_high, true_T}
 use Rattle.machine.specs.Limits.{last_line, most_bytes}

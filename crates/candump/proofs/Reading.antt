@@ -1,4 +1,5 @@
 -- Request P11: events that were written are read back. Assumes nothing.
+use Rattle.std.specs.Prelude.{if◌then◌else◌}
 use Prim.Native.Nat.{ℕ, zero, suc, ◌+◌, ◌-◌, ◌≤◌, ◌<◌}
 use mathlib.Core.Path.{◌≡◌, refl, sym, ap, ◌∙◌, subst}
 use mathlib.Core.Bool.{Bool, true, false, ◌&&◌}
@@ -9,7 +10,6 @@ use borrow.Author.Tests.{le-leb, lt-leb, le-ltb}
 use lib.Dec.{eqb, leb, ltb}
 use lib.ListN.{length, get_or, take, drop, length-append}
 use lib.Seq.{take_at, drop-drop, drop-append_seam}
-use Rattle.codec.specs.Plain.{if◌then◌else◌}
 use Rattle.number.specs.Number.{largest, Found, number_in, groups, bytes_of}
 use Rattle.number.proofs.Laws.{reads_back, written_short}
 use Rattle.machine.specs.Step.{Event, connect, call, frame, advance, close}

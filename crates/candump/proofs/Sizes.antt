@@ -1,4 +1,5 @@
 -- Request P11: what the events of a recording take of its bytes. Assumes nothing.
+use Rattle.std.specs.Prelude.{if◌then◌else◌}
 use Prim.Native.Nat.{ℕ, zero, suc, ◌+◌, ◌-◌, ◌≤◌, ◌<◌}
 use mathlib.Core.Path.{◌≡◌, refl, sym, ap, ◌∙◌, subst}
 use mathlib.Core.Logic.{◌⊎◌, inl, inr, ⊎_elim}
@@ -10,7 +11,7 @@ use borrow.Author.Tests.{leb-true, leb-false, ltb-false}
 use lib.Dec.{leb, ltb, T, ltb→lt}
 use lib.ListN.{length, get_or, take, drop, length-append, length-drop}
 use lib.Seq.{length-take-le}
-use Rattle.codec.specs.Plain.{if◌then◌else◌, all, is_byte}
+use Rattle.codec.specs.Plain.{all, is_byte}
 use Rattle.codec.proofs.Lists.{Each, all_drop, all_take, all_at}
 use Rattle.number.specs.Number.{Found, number_in, bytes_of}
 use Rattle.number.proofs.Laws.{writes_back, read_bounded, written_short}

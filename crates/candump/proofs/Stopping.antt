@@ -1,4 +1,5 @@
 -- Request P11: what a line does to an import: it stops it and leaves nothing, or it is taken. Assumes nothing.
+use Rattle.std.specs.Prelude.{if◌then◌else◌}
 use Prim.Native.Nat.{ℕ, ◌+◌, ◌≤◌, ◌<◌}
 use mathlib.Core.Path.{◌≡◌, refl, ap, ap₂, ◌∙◌}
 use mathlib.Core.Bool.{Bool, true, false, ◌||◌, or-true}
@@ -7,7 +8,6 @@ use mathlib.Core.Option.{Option, none, some}
 use borrow.Author.Tests.{lt-ltb, le-ltb}
 use lib.Dec.{ltb}
 use lib.ListN.{length}
-use Rattle.codec.specs.Plain.{if◌then◌else◌}
 use Rattle.candump.specs.Line.{Logged, Said, malformed, unknown, tells, line_in}
 use Rattle.candump.specs.Log.{bytes_all, line_events, room, is_malformed, is_unknown, goes_back, does_not_fit, Import, stopped, taking, importing}
 

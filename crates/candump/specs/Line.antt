@@ -1,7 +1,7 @@
 -- Request P11: a line of a candump log, as text and read. Assumes nothing.
-use Rattle.std.specs.Prelude.{ℕ, ◌+◌, ◌-◌, ◌*◌, ◌/◌, ◌%◌, ◌≤◌, Bool, true, false, List, [], ◌∷◌, ◌++◌, eqb, leb, ltb, T, length}
+use Rattle.std.specs.Prelude.{ℕ, ◌+◌, ◌-◌, ◌*◌, ◌/◌, ◌%◌, ◌≤◌, Bool, true, false, List, [], ◌∷◌, ◌++◌, eqb, leb, ltb, T, length, if◌then◌else◌}
 use Rattle.std.proofs.Math.Option.{Option, none, some, map, bind}
-use Rattle.codec.specs.Plain.{if◌then◌else◌, within, all, is_byte}
+use Rattle.codec.specs.Plain.{within, all, is_byte}
 use Rattle.text.specs.Text.{fixed, decimal, value_of, number_of}
 use Rattle.machine.specs.Limits.{last_line, most_bytes}
 use Rattle.machine.specs.Message.{id_limit}

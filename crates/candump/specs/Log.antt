@@ -1,6 +1,5 @@
 -- Request P11: import and export of a candump log. Times are in microseconds. Assumes nothing.
-use Rattle.std.specs.Prelude.{ℕ, zero, suc, ◌+◌, ◌-◌, ◌*◌, ◌/◌, ◌%◌, ◌≤◌, ◌≡◌, Bool, true, false, List, [], ◌∷◌, ◌++◌, map, eqb, ltb, length, replicate}
-use Rattle.codec.specs.Plain.{if◌then◌else◌}
+use Rattle.std.specs.Prelude.{ℕ, zero, suc, ◌+◌, ◌-◌, ◌*◌, ◌/◌, ◌%◌, ◌≤◌, ◌≡◌, Bool, true, false, List, [], ◌∷◌, ◌++◌, map, eqb, ltb, length, replicate, if◌then◌else◌}
 use Rattle.recording_sizes.specs.Sizes.{longest}
 use Rattle.number.specs.Number.{bytes_of}
 use Rattle.machine.specs.Limits.{most_advance}

@@ -1,4 +1,5 @@
 -- What goes in flight next: where its bytes lie in the three stores; and the written store without its oldest record. Assumes nothing.
+use Rattle.std.specs.Prelude.{if◌then◌else◌}
 use mathlib.Core.Path.{◌≡◌, refl, sym, ap, ◌∙◌}
 use Prim.Native.Nat.{ℕ, zero, suc, ◌+◌, ◌*◌, ◌-◌, ◌≤◌, ◌<◌}
 use native.Mathlib.Nat.{not-suc-le-zero}
@@ -9,7 +10,7 @@ use lib.ListN.{length, get_or, set, take, drop, length-drop}
 use lib.Seq.{take_all, length-take-le}
 use lib.Dec.{T}
 use borrow.Rule.Slice.PartMut.{put_mid}
-use Rattle.codec.specs.Plain.{if◌then◌else◌, zeros}
+use Rattle.codec.specs.Plain.{zeros}
 use Rattle.codec.specs.Code.{such, get_all, put_all, up_to}
 use Rattle.codec.proofs.Lists.{part_long}
 use Rattle.codec.proofs.Store.{oldest_out, oldest_gone}

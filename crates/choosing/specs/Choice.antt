@@ -1,7 +1,6 @@
 -- What goes in flight next: its bytes, the three stores that it is chosen from, and the channel that is without it. Assumes nothing.
-use Rattle.std.specs.Prelude.{ℕ, ◌≤◌, ◌<◌, ◌≡◌, Bool, false, List, [], ltb, length, get_or, drop}
+use Rattle.std.specs.Prelude.{ℕ, ◌≤◌, ◌<◌, ◌≡◌, Bool, false, List, [], ltb, length, get_or, drop, if◌then◌else◌}
 use Rattle.std.proofs.Math.Option.{Option, none, some}
-use Rattle.codec.specs.Plain.{if◌then◌else◌}
 use Rattle.machine.specs.Message.{Rec, shown}
 use Rattle.machine.specs.Filter.{Slots, any_slot}
 use Rattle.machine.specs.Channel.{Periodic, Chan, closed, opened, with_sending, Next, next}

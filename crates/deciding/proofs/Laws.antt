@@ -1,4 +1,5 @@
 -- What code finds out about a width and an identifier is what the machine answers, and the region stays. Assumes nothing.
+use Rattle.std.specs.Prelude.{if◌then◌else◌}
 use mathlib.Core.Path.{◌≡◌, refl, sym, ap, subst, ◌∙◌}
 use Prim.Native.Nat.{ℕ, suc, zero, ◌≤◌}
 use native.Mathlib.Omega.{arith}
@@ -6,7 +7,6 @@ use mathlib.Core.Bool.{Bool, true, false}
 use mathlib.Core.List.{List, []}
 use lib.ListN.{take, drop}
 use lib.Dec.{eqb}
-use Rattle.codec.specs.Plain.{if◌then◌else◌}
 use Rattle.codec.specs.Word.{word_at}
 use Rattle.machine.specs.Message.{id_bytes, takes}
 use Rattle.machine.specs.Filter.{Slots, Filter}

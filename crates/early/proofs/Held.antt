@@ -1,5 +1,6 @@
 -- Ten filters that a region holds are ten cubes: a filter matches a frame of the identifier exactly if it is not longer and the data are in its cube.
 -- Assumes nothing.
+use Rattle.std.specs.Prelude.{if◌then◌else◌}
 use mathlib.Core.Path.{◌≡◌, refl, sym, ap, ap₂, ◌∙◌, subst}
 use Prim.Native.Nat.{ℕ, ◌+◌, ◌*◌, ◌≤◌, ◌<◌}
 use native.Mathlib.Omega.{arith}
@@ -10,7 +11,7 @@ use lib.Dec.{T, eqb, leb}
 use lib.Bits.{bit_and}
 use lib.ListN.{length, get_or, take, drop, length-map, length-drop}
 use lib.Seq.{get_or-take, length-take-le}
-use Rattle.codec.specs.Plain.{if◌then◌else◌, all, is_byte, all_zero}
+use Rattle.codec.specs.Plain.{all, is_byte, all_zero}
 use Rattle.codec.specs.Code.{via, such, each_via}
 use Rattle.codec.proofs.Tests.{right, and_false}
 use Rattle.codec.proofs.Lists.{all_drop, all_take}

@@ -1,7 +1,6 @@
 -- Request P12: "Recordings get an edition: one that begins with event 0 and the number 2 follows the new rule; one without keeps 125,000 for
 -- ever." Event 0 is no event of the machine's, so that it is bad wherever else it stands. Assumes nothing.
-use Rattle.std.specs.Prelude.{ℕ, Bool, ◌&&◌, false, List, eqb, ltb, length, get_or}
-use Rattle.codec.specs.Plain.{if◌then◌else◌}
+use Rattle.std.specs.Prelude.{ℕ, Bool, ◌&&◌, false, List, eqb, ltb, length, get_or, if◌then◌else◌}
 use Rattle.machine.specs.Codes.{three_rates, two_rates}
 
 -- the event that says an edition, and the one edition that it may say

@@ -1,7 +1,6 @@
 -- The events of a recording, up to its end or its first bad event: what the shift report and the export of a log go over. Assumes nothing.
-use Rattle.std.specs.Prelude.{ℕ, zero, suc, List, [], ◌∷◌, leb, ltb, length}
+use Rattle.std.specs.Prelude.{ℕ, zero, suc, List, [], ◌∷◌, leb, ltb, length, if◌then◌else◌}
 use Rattle.std.proofs.Math.Option.{Option, none, some}
-use Rattle.codec.specs.Plain.{if◌then◌else◌}
 use Rattle.recording_sizes.specs.Sizes.{longest}
 use Rattle.machine.specs.Step.{Event}
 use Rattle.edition.specs.Edition.{start_of}

@@ -1,4 +1,5 @@
 -- What the answers for the parts of an event say of them. Assumes nothing.
+use Rattle.std.specs.Prelude.{if◌then◌else◌}
 use Prim.Native.Nat.{ℕ, ◌+◌, ◌*◌, ◌-◌, ◌≤◌, ◌<◌}
 use mathlib.Core.Bool.{Bool, true, false, ◌&&◌}
 use mathlib.Core.List.{List, [], ◌∷◌}
@@ -9,7 +10,6 @@ use native.Mathlib.Omega.{arith}
 use borrow.Author.Tests.{leb-true, leb-false}
 use lib.Dec.{leb}
 use lib.ListN.{length}
-use Rattle.codec.specs.Plain.{if◌then◌else◌}
 use Rattle.events.specs.Events.{◌>>=◌, done, number, bytes}
 use Rattle.events.specs.Found.{between}
 use Rattle.events.specs.Values.{raw}

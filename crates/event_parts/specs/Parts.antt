@@ -1,7 +1,6 @@
 -- The parts of an event in a recording. Assumes nothing.
-use Rattle.std.specs.Prelude.{ℕ, ◌+◌, ◌*◌, ◌&&◌, List, leb, length}
+use Rattle.std.specs.Prelude.{ℕ, ◌+◌, ◌*◌, ◌&&◌, List, leb, length, if◌then◌else◌}
 use Rattle.std.proofs.Math.Option.{Option, none, some}
-use Rattle.codec.specs.Plain.{if◌then◌else◌}
 use Rattle.recording_sizes.specs.Sizes.{most}
 use Rattle.events.specs.Events.{Reads, ◌>>=◌, done, number}
 use Rattle.event_parts.specs.declared.Pair.{Pair}

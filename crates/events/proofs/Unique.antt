@@ -1,11 +1,11 @@
 -- ANY TWO ANSWERS THAT MEET THE READER'S PROMISE ARE EQUAL: an event's number and values say which case it is. Assumes nothing.
+use Rattle.std.specs.Prelude.{if◌then◌else◌}
 use Prim.Native.Nat.{ℕ}
 use mathlib.Core.List.{List, [], ◌∷◌}
 use mathlib.Core.Option.{Option, none, some}
 use mathlib.Core.Path.{◌≡◌, refl, sym, ap, ◌∙◌}
 use lib.Dec.{eqb}
 use lib.ListN.{length, get_or}
-use Rattle.codec.specs.Plain.{if◌then◌else◌}
 use Rattle.codec.specs.Settled.{Settled}
 use Rattle.events.specs.Found.{ReadsEvent}
 use Rattle.events.specs.Values.{said_by}

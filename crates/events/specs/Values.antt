@@ -1,8 +1,7 @@
 -- Each case of the event enums by the scope's section "Recording": its number, 1 to 16, and its values in their order, as the reader gives them.
 -- Raw bytes are given by the places where they start and end. Assumes nothing.
-use Rattle.std.specs.Prelude.{ℕ, ◌+◌, ◌*◌, ◌-◌, List, [], ◌∷◌, ◌++◌, leb, length, get_or}
+use Rattle.std.specs.Prelude.{ℕ, ◌+◌, ◌*◌, ◌-◌, List, [], ◌∷◌, ◌++◌, leb, length, get_or, if◌then◌else◌}
 use Rattle.std.proofs.Math.Option.{Option, none, some}
-use Rattle.codec.specs.Plain.{if◌then◌else◌}
 use Rattle.recording_sizes.specs.Sizes.{on_iso, record_on}
 use Rattle.events.specs.Events.{Reads, ◌>>=◌, done, bad, number, at_most64}
 use Rattle.events.specs.declared.Plain.{Plain}

@@ -1,4 +1,5 @@
 -- What one event exports: a line, time, or nothing. Assumes nothing.
+use Rattle.std.specs.Prelude.{if◌then◌else◌}
 use Prim.Native.Nat.{ℕ, zero, suc, ◌+◌, ◌*◌, ◌/◌, ◌%◌, ◌^◌, ◌≤◌, ◌<◌}
 use mathlib.Core.Path.{◌≡◌, refl, sym, ap, ◌∙◌, subst}
 use mathlib.Core.Bool.{Bool, true, false}
@@ -7,7 +8,6 @@ use native.Mathlib.Omega.{arith}
 use borrow.Author.Tests.{le-ltb, lt-ltb, ne_eqb, eqb-true, eqb-false, ltb-true, ltb-false}
 use lib.Dec.{eqb, ltb}
 use lib.ListN.{length, take, drop, length-append, take-append-drop}
-use Rattle.codec.specs.Plain.{if◌then◌else◌}
 use Rattle.recording_sizes.specs.Sizes.{longest}
 use Rattle.machine.specs.Codes.{code_of as first_code}
 use Rattle.machine.specs.Limits.{last_line, most_bytes, most_advance}

@@ -1,6 +1,7 @@
 -- PIECES JOINED ARE THE EXPORT: a piece writes the first bytes of what is left, and the rest is what is left from its place and time on; so pieces one
 -- after the other, whatever room is lent to each, write the export. Each moves the place, so that as many as there are bytes are enough, and no time that
 -- a piece leaves is refused. Assumes nothing.
+use Rattle.std.specs.Prelude.{if◌then◌else◌}
 use Prim.Native.Nat.{ℕ, zero, suc, ◌+◌, ◌-◌, ◌*◌, ◌≤◌, ◌<◌}
 use mathlib.Core.Bool.{Bool, true, false, ◌||◌}
 use mathlib.Core.List.{List, [], ◌∷◌, ◌++◌, append-nil, append_assoc}
@@ -11,7 +12,6 @@ use borrow.Author.Tests.{le-leb, lt-leb, leb-true, leb-false, lt-ltb, le-ltb, lt
 use lib.Dec.{leb, ltb}
 use lib.ListN.{length, take, drop}
 use lib.Seq.{take_at}
-use Rattle.codec.specs.Plain.{if◌then◌else◌}
 use Rattle.codec.proofs.Lists.{Each}
 use Rattle.recording_sizes.specs.Sizes.{longest}
 use Rattle.machine.specs.Step.{Event}

@@ -1,7 +1,6 @@
 -- Pieces one after the other, and what is left of an export. Assumes nothing.
-use Rattle.std.specs.Prelude.{ℕ, zero, suc, ◌+◌, List, [], ◌∷◌, ◌++◌, leb, ltb, length, take}
+use Rattle.std.specs.Prelude.{ℕ, zero, suc, ◌+◌, List, [], ◌∷◌, ◌++◌, leb, ltb, length, take, if◌then◌else◌}
 use Rattle.std.proofs.Math.Option.{Option, none, some}
-use Rattle.codec.specs.Plain.{if◌then◌else◌}
 use Rattle.recording_sizes.specs.Sizes.{longest}
 use Rattle.machine.specs.Step.{Event}
 use Rattle.events.specs.Events.{read_event}

@@ -1,7 +1,6 @@
 -- The export of a recording in pieces of whole lines, and the promise of the function that writes one into a lent buffer. Assumes nothing.
-use Rattle.std.specs.Prelude.{ℕ, zero, suc, ◌+◌, ◌-◌, ◌*◌, ◌≡◌, ◌||◌, List, [], ◌++◌, leb, ltb, length, drop}
+use Rattle.std.specs.Prelude.{ℕ, zero, suc, ◌+◌, ◌-◌, ◌*◌, ◌≡◌, ◌||◌, List, [], ◌++◌, leb, ltb, length, drop, if◌then◌else◌}
 use Rattle.std.proofs.Math.Option.{Option, none, some}
-use Rattle.codec.specs.Plain.{if◌then◌else◌}
 use Rattle.recording_sizes.specs.Sizes.{longest}
 use Rattle.machine.specs.Codes.{three_rates}
 use Rattle.machine.specs.Step.{Event}

@@ -1,4 +1,5 @@
 -- What is looked at agrees with what is read, part by part, for each event and for a recording. Assumes nothing.
+use Rattle.std.specs.Prelude.{if◌then◌else◌}
 use Prim.Native.Nat.{ℕ, zero, suc, ◌+◌, ◌*◌, ◌≤◌, ◌<◌}
 use mathlib.Core.Bool.{Bool, true, false, true≢false}
 use mathlib.Core.List.{List, [], ◌∷◌}
@@ -9,7 +10,7 @@ use native.Mathlib.Omega.{arith}
 use borrow.Author.Tests.{le-leb, ltb-true, ltb-false, eq-eqb}
 use lib.Dec.{leb, ltb, eqb, eqb→eq}
 use lib.ListN.{length, get_or, take, drop}
-use Rattle.codec.specs.Plain.{if◌then◌else◌, zeros}
+use Rattle.codec.specs.Plain.{zeros}
 use Rattle.codec.proofs.Tests.{true_T}
 use Rattle.recording_sizes.specs.Sizes.{on_iso, record_on}
 use Rattle.machine.specs.Cases.{◌&◌}

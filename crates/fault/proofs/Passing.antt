@@ -1,4 +1,5 @@
 -- What is known between two bytes of a bad number, and what is said of it at its end. Assumes nothing.
+use Rattle.std.specs.Prelude.{if◌then◌else◌}
 use Prim.Native.Nat.{ℕ, zero, suc, ◌+◌, ◌≤◌, ◌<◌}
 use mathlib.Core.Bool.{true, false, not, ◌&&◌, and-false}
 use mathlib.Core.List.{List, [], ◌∷◌, ◌++◌, append_assoc}
@@ -12,7 +13,6 @@ use lib.ListN.{length, get_or, drop, length-append, drop_of_length-le}
 use lib.Seq.{drop-cons}
 use Rattle.number.specs.Number.{front, shortest}
 use Rattle.number.proofs.Groups.{front_more, front_last, highest_last}
-use Rattle.codec.specs.Plain.{if◌then◌else◌}
 use Rattle.fault.specs.Fault.{why_bad}
 
 -- from `at` up to `place` lie the bytes g, each with its top bit set

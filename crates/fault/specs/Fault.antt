@@ -1,7 +1,6 @@
 -- Where and why a recording is bad: the first event that `read_event` refuses, and the first part of it that cannot be read. Assumes nothing.
-use Rattle.std.specs.Prelude.{ℕ, zero, suc, ◌+◌, ◌*◌, List, [], ◌∷◌, leb, ltb, eqb, length, get_or, drop}
+use Rattle.std.specs.Prelude.{ℕ, zero, suc, ◌+◌, ◌*◌, List, [], ◌∷◌, leb, ltb, eqb, length, get_or, drop, if◌then◌else◌}
 use Rattle.std.proofs.Math.Option.{Option, none, some}
-use Rattle.codec.specs.Plain.{if◌then◌else◌}
 use Rattle.recording_sizes.specs.Sizes.{longest, most, on_iso, record_on}
 use Rattle.machine.specs.Step.{Event}
 use Rattle.number.specs.declared.Number.{Number}

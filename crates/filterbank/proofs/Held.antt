@@ -1,4 +1,5 @@
 -- The part of a region that holds the filters: its columns, what code reads in them, and the part with another filter at a place. Assumes nothing.
+use Rattle.std.specs.Prelude.{if◌then◌else◌}
 use mathlib.Core.Path.{◌≡◌, refl, sym, ap, ◌∙◌, subst}
 use Prim.Native.Nat.{ℕ, ◌+◌, ◌*◌, ◌-◌, ◌≤◌, ◌<◌}
 use native.Mathlib.Omega.{arith}
@@ -10,7 +11,7 @@ use lib.ListN.{length, get_or, set, take, drop, length-set, length-map, get_or-m
 use borrow.Author.Tests.{eqb-true, eq-eqb, ne_eqb}
 use mir.Val.{bool_byte}
 use borrow.Rule.Slice.PartMut.{put_mid}
-use Rattle.codec.specs.Plain.{if◌then◌else◌, within, all, is_byte, all_zero}
+use Rattle.codec.specs.Plain.{within, all, is_byte, all_zero}
 use Rattle.codec.specs.Code.{byte, via, such, mark, many, each_via}
 use Rattle.codec.proofs.Tests.{left, right}
 use Rattle.codec.proofs.Lawful.{byte_lawful, mark_lawful, mark_ok}

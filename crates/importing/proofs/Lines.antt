@@ -1,4 +1,5 @@
 -- The lines of a log, one after the other. Assumes nothing.
+use Rattle.std.specs.Prelude.{if◌then◌else◌}
 use Prim.Native.Nat.{ℕ, zero, suc, ◌+◌, ◌-◌, ◌*◌, ◌≤◌, ◌<◌}
 use mathlib.Core.Path.{◌≡◌, refl, sym, ap, ap₂, ◌∙◌, subst}
 use mathlib.Core.Bool.{Bool, true, false}
@@ -8,7 +9,6 @@ use borrow.Author.Tests.{ltb-true, ltb-false, le-ltb, lt-ltb}
 use lib.Dec.{eqb, ltb}
 use lib.ListN.{length, take, drop, length-append, length-take, length-drop, take-append-drop, drop_of_length-le}
 use lib.Seq.{length-take-le, drop-drop, take_at, drop_at}
-use Rattle.codec.specs.Plain.{if◌then◌else◌}
 use Rattle.text_reader.specs.Reading.{before}
 use Rattle.text_reader.proofs.Finding.{found_inside}
 use Rattle.candump.specs.Line.{second, Logged, Said, malformed, unknown, tells, line_in}

@@ -1,11 +1,11 @@
 -- What an import answers that takes nothing. Assumes nothing.
+use Rattle.std.specs.Prelude.{if◌then◌else◌}
 use Prim.Native.Nat.{ℕ, ◌≤◌, ◌<◌}
 use mathlib.Core.Path.{◌≡◌, sym}
 use mathlib.Core.List.{List}
 use borrow.Author.Tests.{lt-ltb, le-ltb}
 use lib.Dec.{ltb}
 use lib.ListN.{length}
-use Rattle.codec.specs.Plain.{if◌then◌else◌}
 use Rattle.candump.specs.Log.{latest, room, imported}
 use Rattle.importing.specs.Promise.{Answer, answers, written, imports}
 use Rattle.importing.specs.declared.Imported.{Imported}

@@ -1,4 +1,5 @@
 -- One line: what was read of it, and what its events do to the buffer. Assumes nothing.
+use Rattle.std.specs.Prelude.{if◌then◌else◌}
 use Prim.Native.Nat.{ℕ, ◌+◌, ◌-◌, ◌*◌, ◌≤◌, ◌<◌}
 use mathlib.Core.Path.{◌≡◌, refl, sym, ap, ap₂, ◌∙◌, subst}
 use mathlib.Core.Bool.{Bool, true, false}
@@ -8,7 +9,6 @@ use native.Mathlib.Omega.{arith}
 use borrow.Author.Tests.{le-ltb, lt-ltb, leb-true}
 use lib.Dec.{leb, ltb}
 use lib.ListN.{length, take, drop, length-drop}
-use Rattle.codec.specs.Plain.{if◌then◌else◌}
 use Rattle.machine.specs.Limits.{most_bytes, last_line}
 use Rattle.machine.specs.Step.{Event, frame}
 use Rattle.candump.specs.Line.{second, Logged, Good, Said, malformed, unknown, tells, only, data_in, few_in, line_in}

@@ -1,6 +1,5 @@
 -- The promise of an import into a lent buffer. Assumes nothing.
-use Rattle.std.specs.Prelude.{ℕ, List, ◌++◌, ltb, length, drop}
-use Rattle.codec.specs.Plain.{if◌then◌else◌}
+use Rattle.std.specs.Prelude.{ℕ, List, ◌++◌, ltb, length, drop, if◌then◌else◌}
 use Rattle.candump.specs.Log.{latest, room, Import, imported}
 
 -- the code, how many bytes of the buffer are the recording, the line that stopped the import and why, and the buffer

@@ -1,6 +1,5 @@
 -- What one line does to a recording that stands at the start of a lent buffer. Assumes nothing.
-use Rattle.std.specs.Prelude.{ℕ, ◌+◌, Bool, List, ◌++◌, ltb, length, take, drop}
-use Rattle.codec.specs.Plain.{if◌then◌else◌}
+use Rattle.std.specs.Prelude.{ℕ, ◌+◌, Bool, List, ◌++◌, ltb, length, take, drop, if◌then◌else◌}
 use Rattle.candump.specs.Line.{Logged, Said, malformed, unknown, tells}
 use Rattle.candump.specs.Log.{bytes_all, line_events, room, is_malformed, is_unknown, goes_back, does_not_fit}
 

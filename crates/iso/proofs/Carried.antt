@@ -1,5 +1,6 @@
 -- What a transmission gives, a conversation hears: the frames of a message of 8 to 508 bytes, one after the other, give the partner that message back.
 -- Assumes nothing.
+use Rattle.std.specs.Prelude.{if◌then◌else◌}
 use Prim.Native.Nat.{ℕ, zero, suc, ◌+◌, ◌*◌, ◌-◌, ◌/◌, ◌%◌, ◌≤◌, ◌<◌, min}
 use mathlib.Core.Path.{◌≡◌, refl, sym, ap, ◌∙◌}
 use mathlib.Core.Bool.{Bool, true, false}
@@ -10,7 +11,6 @@ use borrow.Author.Tests.{ltb-false, eq-eqb, ne_eqb, lt-ltb, le-ltb, le-leb, lt-l
 use lib.ListN.{length, take, drop, length-take, length-drop, take-append-drop}
 use lib.Seq.{take-add, take_all, take-take, length-take-le}
 use lib.Dec.{eqb, leb, ltb}
-use Rattle.codec.specs.Plain.{if◌then◌else◌}
 use Rattle.machine.specs.Message.{id_bytes, Rec}
 use Rattle.iso.specs.Limits.{most_payload, least_segmented, in_first, in_next}
 use Rattle.iso.specs.Iso.{Transfer, idle, receives, Talk, turned, number_after, rx_start, arrived, Heard, becomes, low, on_first, on_next, on_consecutive, transmitting, listening, Transmission, framed, first_frame, next_frame, transmits, sends, Given, gives, next_of, segment_of, staged, sent_stage, sent_of, whole_of, done_of}

@@ -1,5 +1,6 @@
 -- DEMAND 1 on one ISO 15765 channel, for any set of rates: the code of every call on an open channel is one of `iso_codes`, and a refusal leaves the
 -- channel and the lent buffer as they were, but for its last code. A call closes the channel only with 0x00. Assumes nothing.
+use Rattle.std.specs.Prelude.{if◌then◌else◌}
 use Prim.Native.Nat.{ℕ, zero, suc, ◌+◌, ◌*◌}
 use mathlib.Core.Path.{◌≡◌, refl, sym, ap, ap₂, ◌∙◌, subst}
 use mathlib.Core.Logic.{⊎_elim}
@@ -10,7 +11,7 @@ use native.Mathlib.Omega.{arith}
 use borrow.Author.Tests.{eqb-true, leb-true, le-ltb}
 use lib.ListN.{take, drop}
 use lib.Dec.{T, eqb, leb, ltb}
-use Rattle.codec.specs.Plain.{if◌then◌else◌, member}
+use Rattle.codec.specs.Plain.{member}
 use Rattle.machine.specs.Codes.{step_codes, code_of}
 use Rattle.machine.specs.Message.{Rec, clean}
 use Rattle.machine.specs.Filter.{Slots}

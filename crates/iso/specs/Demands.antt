@@ -1,8 +1,7 @@
 -- The words of demand 1, and of the scope's "What a proof has to close off", on one ISO 15765 channel: what a refusal leaves behind, which records
 -- the channel holds, and what it is for a count to be the number of records moved. Which answers are refusals is said once for all channels.
 -- Assumes nothing.
-use Rattle.std.specs.Prelude.{ℕ, zero, suc, ◌*◌, ◌≡◌, Bool, true, List, [], ◌∷◌, ◌++◌, length, drop, eqb, leb}
-use Rattle.codec.specs.Plain.{if◌then◌else◌}
+use Rattle.std.specs.Prelude.{ℕ, zero, suc, ◌*◌, ◌≡◌, Bool, true, List, [], ◌∷◌, ◌++◌, length, drop, eqb, leb, if◌then◌else◌}
 use Rattle.machine.specs.Limits.{last_line}
 use Rattle.machine.specs.Message.{Rec, clean}
 use Rattle.machine.specs.Channel.{Answer}

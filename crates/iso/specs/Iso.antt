@@ -1,9 +1,9 @@
 -- One ISO 15765 channel with its two conversations: its state, and what each call does to it, by request P3 and its readings. Nothing here can name
 -- another channel. `rates` is the set of rates in force. Assumes nothing.
-use Rattle.std.specs.Prelude.{ℕ, zero, suc, ◌+◌, ◌*◌, ◌/◌, ◌%◌, ◌-◌, min, Bool, true, false, not, ◌&&◌, ◌||◌, List, [], ◌∷◌, ◌++◌, map, length, get_or, set, take, drop, replicate, eqb, leb, ltb}
+use Rattle.std.specs.Prelude.{ℕ, zero, suc, ◌+◌, ◌*◌, ◌/◌, ◌%◌, ◌-◌, min, Bool, true, false, not, ◌&&◌, ◌||◌, List, [], ◌∷◌, ◌++◌, map, length, get_or, set, take, drop, replicate, eqb, leb, ltb, if◌then◌else◌}
 use Rattle.std.specs.Bool.{beq}
 use Rattle.std.proofs.Math.Option.{Option, none, some}
-use Rattle.codec.specs.Plain.{if◌then◌else◌, within, member, zeros}
+use Rattle.codec.specs.Plain.{within, member, zeros}
 use Rattle.codec.specs.Word.{word}
 use Rattle.machine.specs.Codes.{code_of}
 use Rattle.machine.specs.Limits.{most_advance}

@@ -1,9 +1,9 @@
 -- One conversation of an ISO 15765 channel, by request P3 and its readings: a flow-control filter with the transfer on it. What it does with a frame from
 -- the bus, as time passes, when a frame is taken and when one was sent. Assumes nothing.
-use Rattle.std.specs.Prelude.{ℕ, zero, suc, ◌+◌, ◌*◌, ◌/◌, ◌%◌, ◌-◌, min, Bool, true, false, not, ◌&&◌, ◌||◌, List, [], ◌∷◌, ◌++◌, length, get_or, take, drop, eqb, leb, ltb}
+use Rattle.std.specs.Prelude.{ℕ, zero, suc, ◌+◌, ◌*◌, ◌/◌, ◌%◌, ◌-◌, min, Bool, true, false, not, ◌&&◌, ◌||◌, List, [], ◌∷◌, ◌++◌, length, get_or, take, drop, eqb, leb, ltb, if◌then◌else◌}
 use Rattle.std.specs.Bool.{beq}
 use Rattle.std.proofs.Math.Option.{Option, none, some}
-use Rattle.codec.specs.Plain.{if◌then◌else◌, within}
+use Rattle.codec.specs.Plain.{within}
 use Rattle.machine.specs.Message.{bit, width_flag, id_bytes, id_of, Rec, received}
 use Rattle.iso.specs.Limits.{id_size, most_payload, in_single, least_segmented, in_first, in_next, second, longest_gap}
 

@@ -1,4 +1,5 @@
 -- The choice, step by step, on the region of an open channel. Assumes nothing.
+use Rattle.std.specs.Prelude.{if◌then◌else◌}
 use mathlib.Core.Path.{◌≡◌, refl, sym, ap, ap₂, ◌∙◌, subst}
 use Prim.Native.Nat.{ℕ, zero, suc, ◌+◌, ◌*◌, ◌<◌}
 use native.Mathlib.Omega.{arith}
@@ -7,7 +8,7 @@ use mathlib.Core.Option.{Option, none, some}
 use mathlib.Core.List.{List, [], ◌∷◌}
 use lib.ListN.{get_or}
 use lib.Dec.{ltb}
-use Rattle.codec.specs.Plain.{if◌then◌else◌, zeros}
+use Rattle.codec.specs.Plain.{zeros}
 use Rattle.codec.specs.Word.{word}
 use Rattle.codec.specs.Code.{byte, word32, both, via, such, mark, slot}
 use Rattle.codec.proofs.Part.{byte_of}

@@ -1,4 +1,5 @@
 -- Stopping and clearing, on the region of an open ISO 15765 channel: the answers of `iso`. Assumes nothing.
+use Rattle.std.specs.Prelude.{if◌then◌else◌}
 use mathlib.Core.Path.{◌≡◌, refl, sym, ap, ◌∙◌}
 use Prim.Native.Nat.{ℕ, suc, ◌+◌, ◌-◌, ◌*◌, ◌≤◌, ◌<◌}
 use native.Mathlib.Omega.{arith}
@@ -9,7 +10,7 @@ use lib.ListN.{length, get_or, set, take, drop}
 use lib.Dec.{T, eqb}
 use borrow.Author.Tests.{eq-eqb, ne_eqb}
 use borrow.Rule.Slice.PartMut.{put_mid}
-use Rattle.codec.specs.Plain.{if◌then◌else◌, within, zeros}
+use Rattle.codec.specs.Plain.{within, zeros}
 use Rattle.codec.specs.Code.{Code, byte, word32, both, both_on, via, such, mark, many, slot, up_to}
 use Rattle.codec.proofs.Tests.{join, true_T, within_low, within_high}
 use Rattle.codec.proofs.Many.{many_count, many_set}

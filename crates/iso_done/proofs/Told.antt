@@ -1,4 +1,5 @@
 -- What a message that was sent tells, in the bytes of a receiving part. Assumes nothing.
+use Rattle.std.specs.Prelude.{if◌then◌else◌}
 use mathlib.Core.Path.{◌≡◌, refl, sym, ap, ◌∙◌, subst}
 use Prim.Native.Nat.{ℕ, ◌+◌, ◌≤◌}
 use mathlib.Core.Bool.{Bool, true, false, ◌&&◌}
@@ -6,7 +7,7 @@ use mathlib.Core.List.{List, [], ◌∷◌, ◌++◌, append-nil}
 use lib.ListN.{length, get_or, take, drop}
 use lib.Seq.{take_at}
 use lib.Dec.{T}
-use Rattle.codec.specs.Plain.{if◌then◌else◌, all}
+use Rattle.codec.specs.Plain.{all}
 use Rattle.codec.specs.Code.{both, via, mark, up_to}
 use Rattle.codec.proofs.Tests.{left, right, join}
 use Rattle.codec.proofs.Lawful.{mark_ok, both_first, both_make}

@@ -1,4 +1,5 @@
 -- A frame in flight and the transfer that it belongs to, in the bytes of a region. Assumes nothing.
+use Rattle.std.specs.Prelude.{if◌then◌else◌}
 use mathlib.Core.Path.{◌≡◌, refl, sym, ap, ◌∙◌, subst}
 use Prim.Native.Nat.{ℕ, zero, suc, ◌+◌, ◌-◌, ◌*◌, ◌≤◌, ◌<◌}
 use native.Mathlib.Omega.{arith}
@@ -8,7 +9,7 @@ use mathlib.Core.List.{List, [], ◌∷◌}
 use lib.ListN.{length, get_or, set, take, drop}
 use lib.Dec.{T, eqb, leb, leb→le}
 use borrow.Rule.Slice.PartMut.{put_mid, mid_of}
-use Rattle.codec.specs.Plain.{if◌then◌else◌, zeros}
+use Rattle.codec.specs.Plain.{zeros}
 use Rattle.codec.specs.Code.{Code, byte, both, both_on, via, such, slot}
 use Rattle.codec.proofs.Tests.{left, right, join}
 use Rattle.codec.proofs.Part.{byte_of}

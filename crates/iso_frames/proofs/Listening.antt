@@ -1,4 +1,5 @@
 -- The region in which a conversation hears a frame: its place, then the queue, then the flight. Assumes nothing.
+use Rattle.std.specs.Prelude.{if◌then◌else◌}
 use mathlib.Core.Path.{◌≡◌, refl, sym, ap, ap₂, ◌∙◌, subst}
 use Prim.Native.Nat.{ℕ, ◌+◌, ◌*◌, ◌-◌, ◌^◌, ◌≤◌, ◌<◌}
 use mathlib.Core.Bool.{Bool, true, ◌&&◌, beq}
@@ -7,7 +8,7 @@ use mathlib.Core.List.{List, []}
 use lib.ListN.{length, get_or, set, take, drop, length-set}
 use lib.Dec.{T, eqb, eqb→eq, eqb_refl}
 use borrow.Rule.Slice.PartMut.{put_mid}
-use Rattle.codec.specs.Plain.{if◌then◌else◌, all, is_byte}
+use Rattle.codec.specs.Plain.{all, is_byte}
 use Rattle.codec.specs.Code.{slot, up_to, both, both_on, via, mark}
 use Rattle.codec.proofs.Tests.{left, right, join, T_true, true_T}
 use Rattle.codec.proofs.Lists.{all_at, all_set}

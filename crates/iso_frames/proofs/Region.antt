@@ -1,4 +1,5 @@
 -- A frame on a region: closed, with no conversation that it concerns, with the first, with the second. Assumes nothing.
+use Rattle.std.specs.Prelude.{if◌then◌else◌}
 use mathlib.Core.Path.{◌≡◌, refl, sym, ap, ◌∙◌}
 use Prim.Native.Nat.{ℕ, ◌+◌, ◌*◌, ◌≤◌, ◌<◌}
 use native.Mathlib.Omega.{arith}
@@ -8,7 +9,6 @@ use mathlib.Core.List.{List, [], ◌∷◌}
 use lib.ListN.{length, get_or, take, drop}
 use lib.Dec.{T, eqb, ltb}
 use borrow.Author.Tests.{ltb-false, eq-eqb}
-use Rattle.codec.specs.Plain.{if◌then◌else◌}
 use Rattle.codec.specs.Code.{slot}
 use Rattle.machine.specs.Codes.{code_of}
 use Rattle.machine.specs.Message.{id_limit}

@@ -1,4 +1,5 @@
 -- What a conversation gives by each rule is a frame of its own, and the lowest of two. Assumes nothing.
+use Rattle.std.specs.Prelude.{if◌then◌else◌}
 use mathlib.Core.Path.{◌≡◌, refl, sym, ap, ◌∙◌}
 use Prim.Native.Nat.{ℕ, suc, ◌+◌, ◌/◌, ◌%◌, ◌≤◌}
 use native.Mathlib.Omega.{arith}
@@ -8,7 +9,6 @@ use mathlib.Core.List.{List, [], ◌∷◌}
 use lib.ListN.{length, get_or, take, drop, length-drop}
 use lib.Dec.{eqb}
 use borrow.Author.Tests.{ne_eqb}
-use Rattle.codec.specs.Plain.{if◌then◌else◌}
 use Rattle.machine.proofs.Tables.{by_test}
 use Rattle.machine.specs.Message.{Rec, bit, id_of}
 use Rattle.iso.specs.Limits.{id_size, iso_data, in_first, in_next}

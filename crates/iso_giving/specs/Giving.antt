@@ -1,8 +1,7 @@
 -- A frame chosen to be sent on an open channel: what it belongs to, the channel with it in flight, and what the conversation at a place gives. Assumes
 -- nothing.
-use Rattle.std.specs.Prelude.{◌≡◌, ℕ, ◌+◌, ◌<◌, Bool, true, false, List, length, get_or, set, drop, T, eqb}
+use Rattle.std.specs.Prelude.{◌≡◌, ℕ, ◌+◌, ◌<◌, Bool, true, false, List, length, get_or, set, drop, T, eqb, if◌then◌else◌}
 use Rattle.std.proofs.Math.Option.{Option, none, some}
-use Rattle.codec.specs.Plain.{if◌then◌else◌}
 use Rattle.machine.specs.Message.{Rec, bit, id_of}
 use Rattle.machine.specs.Filter.{Slots}
 use Rattle.iso.specs.Limits.{id_size, longest_single}

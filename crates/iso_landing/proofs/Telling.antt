@@ -1,4 +1,5 @@
 -- What a message that was sent tells, in the bytes of a region. Assumes nothing.
+use Rattle.std.specs.Prelude.{if◌then◌else◌}
 use mathlib.Core.Path.{◌≡◌, refl, sym, ap, ◌∙◌, subst}
 use Prim.Native.Nat.{ℕ, ◌+◌, ◌-◌, ◌≤◌}
 use native.Mathlib.Omega.{arith}
@@ -8,7 +9,7 @@ use lib.ListN.{length, get_or, take, drop}
 use lib.Seq.{length-take-le}
 use lib.Dec.{T, eqb}
 use borrow.Rule.Slice.PartMut.{put_mid, mid_of}
-use Rattle.codec.specs.Plain.{if◌then◌else◌, all, member}
+use Rattle.codec.specs.Plain.{all, member}
 use Rattle.codec.specs.Word.{word}
 use Rattle.codec.specs.Code.{byte, word32, both, via, such, mark, mark_of}
 use Rattle.codec.proofs.Tests.{left, right}

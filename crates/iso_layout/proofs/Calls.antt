@@ -1,4 +1,5 @@
 -- An ISO 15765 channel keeps what its region can hold, whatever reaches it: each call, a connect, a frame, an advance, a close. Assumes nothing.
+use Rattle.std.specs.Prelude.{if◌then◌else◌}
 use mathlib.Core.Path.{◌≡◌, refl, sym, ◌∙◌, subst}
 use Prim.Native.Nat.{ℕ, zero, suc, ◌+◌, ◌*◌, ◌-◌, ◌^◌, ◌≤◌, ◌<◌, min}
 use native.Mathlib.Omega.{arith}
@@ -8,7 +9,7 @@ use mathlib.Core.List.{List, [], ◌∷◌, ◌++◌, map}
 use lib.ListN.{length, get_or, set, drop, length-drop}
 use lib.Seq.{length-take-le}
 use lib.Dec.{T, eqb, leb, eqb→eq, nleb→lt, nltb→le, eqb_refl}
-use Rattle.codec.specs.Plain.{if◌then◌else◌, within, member, all, is_byte}
+use Rattle.codec.specs.Plain.{within, member, all, is_byte}
 use Rattle.codec.specs.Code.{Code, byte, both, via, such, slot, up_to}
 use Rattle.codec.proofs.Tests.{left, right, join, or_either, or_left, or_right, within_low, within_high}
 use Rattle.codec.proofs.Lists.{all_drop}

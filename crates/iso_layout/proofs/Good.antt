@@ -1,4 +1,5 @@
 -- What the region of an open ISO 15765 channel can hold, part by part, and how its conversations and its flight hang together. Assumes nothing.
+use Rattle.std.specs.Prelude.{if◌then◌else◌}
 use mathlib.Core.Path.{◌≡◌, refl, sym, subst}
 use Prim.Native.Nat.{ℕ, suc, ◌+◌}
 use native.Mathlib.Omega.{arith}
@@ -7,7 +8,7 @@ use mathlib.Core.Option.{Option, none, some}
 use mathlib.Core.List.{[], ◌∷◌}
 use lib.ListN.{length, get_or}
 use lib.Dec.{T, eqb, eqb→eq}
-use Rattle.codec.specs.Plain.{if◌then◌else◌, all}
+use Rattle.codec.specs.Plain.{all}
 use Rattle.codec.specs.Code.{both, both_on, via, such, many, slot, up_to}
 use Rattle.codec.proofs.Tests.{left, right, join}
 use Rattle.codec.proofs.Lawful.{mark_ok}

@@ -1,5 +1,6 @@
 -- A conversation keeps what its place can hold, whatever frame comes and however time passes, and tells only records that the queue can hold.
 -- Assumes nothing.
+use Rattle.std.specs.Prelude.{if◌then◌else◌}
 use mathlib.Core.Path.{◌≡◌, refl, sym, ap, ◌∙◌, subst}
 use Prim.Native.Nat.{ℕ, ◌+◌, ◌*◌, ◌-◌, ◌/◌, ◌%◌, ◌^◌, ◌≤◌, ◌<◌, min}
 use native.Mathlib.Omega.{arith}
@@ -9,7 +10,7 @@ use mathlib.Core.List.{List, [], ◌∷◌, ◌++◌}
 use lib.ListN.{length, get_or, take, drop, length-append, length-drop}
 use lib.Seq.{length-take-le}
 use lib.Dec.{T, eqb, leb, ltb, eqb→eq, leb→le, le→leb, ltb→lt, lt→ltb, nleb→lt, nltb→le, eqb_refl}
-use Rattle.codec.specs.Plain.{if◌then◌else◌, within, member, all, is_byte}
+use Rattle.codec.specs.Plain.{within, member, all, is_byte}
 use Rattle.codec.specs.Word.{word, word_at}
 use Rattle.codec.specs.Code.{up_to}
 use Rattle.codec.proofs.Tests.{left, right, join, or_left, or_right, within_low, within_high}

@@ -1,5 +1,6 @@
 -- What the region of an ISO 15765 channel can hold: a record, a transfer, a conversation, a flight, each made of plain facts, and those facts taken out
 -- again. Assumes nothing.
+use Rattle.std.specs.Prelude.{if◌then◌else◌}
 use mathlib.Core.Path.{◌≡◌, refl, sym, ap, ◌∙◌, subst}
 use Prim.Native.Nat.{ℕ, ◌+◌, ◌-◌, ◌%◌, ◌^◌, ◌≤◌, ◌<◌}
 use native.Mathlib.Omega.{arith}
@@ -8,7 +9,7 @@ use mathlib.Core.List.{List, [], ◌∷◌, ◌++◌}
 use lib.ListN.{length, drop, length-append, length-replicate}
 use lib.Seq.{take_at, drop_at}
 use lib.Dec.{T, eqb, leb, ltb, lit<, eqb→eq, eqb_refl, leb→le, le→leb, ltb→lt, lt→ltb}
-use Rattle.codec.specs.Plain.{if◌then◌else◌, within, member, all, is_byte, zeros, all_zero}
+use Rattle.codec.specs.Plain.{within, member, all, is_byte, zeros, all_zero}
 use Rattle.codec.specs.Code.{byte, word32, both, via, such, many}
 use Rattle.codec.proofs.Tests.{left, right, join, within_low, within_high}
 use Rattle.codec.proofs.Lists.{all_append, all_take, all_zeros}

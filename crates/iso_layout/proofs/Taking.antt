@@ -1,4 +1,5 @@
 -- Take and sent on an ISO 15765 channel keep what its region can hold. Assumes nothing.
+use Rattle.std.specs.Prelude.{if◌then◌else◌}
 use mathlib.Core.Path.{◌≡◌, refl, sym, ap, subst}
 use Prim.Native.Nat.{ℕ, zero, suc, ◌+◌, ◌-◌, ◌/◌, ◌%◌, ◌^◌, ◌≤◌, ◌<◌}
 use native.Mathlib.Omega.{arith}
@@ -9,7 +10,7 @@ use mathlib.Core.List.{List, [], ◌∷◌, ◌++◌}
 use lib.ListN.{length, get_or, take, drop, length-append, length-drop, length-take}
 use lib.Seq.{length-take-le}
 use lib.Dec.{T, eqb, leb, ltb, eqb→eq, leb→le, le→leb, lt→ltb, nleb→lt}
-use Rattle.codec.specs.Plain.{if◌then◌else◌, within, member, all, is_byte}
+use Rattle.codec.specs.Plain.{within, member, all, is_byte}
 use Rattle.codec.specs.Code.{byte, both, via, such, up_to}
 use Rattle.codec.proofs.Tests.{left, right, join, within_low, eq→eqb}
 use Rattle.codec.proofs.Lists.{all_append, all_take, all_drop, Each, of_member}

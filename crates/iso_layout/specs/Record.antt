@@ -1,7 +1,7 @@
 -- A stored record of an ISO 15765 channel, 536 bytes, and which of them may wait to be sent, be in flight or wait to be read on a connection of given
 -- flags; a payload of at most 508 bytes. Zeros follow the data. Assumes nothing.
-use Rattle.std.specs.Prelude.{ℕ, ◌-◌, Bool, ◌&&◌, ◌||◌, List, [], ◌∷◌, ◌++◌, length, take, drop, eqb, leb}
-use Rattle.codec.specs.Plain.{if◌then◌else◌, within, member, zeros, all_zero}
+use Rattle.std.specs.Prelude.{ℕ, ◌-◌, Bool, ◌&&◌, ◌||◌, List, [], ◌∷◌, ◌++◌, length, take, drop, eqb, leb, if◌then◌else◌}
+use Rattle.codec.specs.Plain.{within, member, zeros, all_zero}
 use Rattle.codec.specs.Code.{Code, byte, word32, both, via, such, many}
 use Rattle.machine.specs.Limits.{most_data}
 use Rattle.machine.specs.Message.{bit, Rec}

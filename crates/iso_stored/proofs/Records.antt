@@ -1,4 +1,5 @@
 -- What validity is of a stored record of an ISO 15765 channel, as code finds it out. Assumes nothing.
+use Rattle.std.specs.Prelude.{if◌then◌else◌}
 use mathlib.Core.Path.{◌≡◌, refl, sym, ap, ap₂, ◌∙◌, subst}
 use Prim.Native.Nat.{ℕ, ◌+◌, ◌-◌, ◌≤◌, ◌<◌}
 use native.Mathlib.Omega.{arith}
@@ -7,7 +8,7 @@ use mathlib.Core.List.{List, [], ◌∷◌}
 use lib.ListN.{length, get_or, take, drop, length-drop}
 use lib.Seq.{drop-drop, take_all, length-take-le, get_or-take, get_or-drop}
 use lib.Dec.{T, eqb, leb, leb→le}
-use Rattle.codec.specs.Plain.{if◌then◌else◌, within, member, all_zero}
+use Rattle.codec.specs.Plain.{within, member, all_zero}
 use Rattle.codec.specs.Word.{word_at}
 use Rattle.codec.specs.Code.{Code, byte, word32, both, via, such, many}
 use Rattle.codec.proofs.Tests.{left, right, T_true, and_true, and_false, between, below, above, within_low}

@@ -1,6 +1,5 @@
 -- A record of an ISO 15765 channel, a written message or one held for reading, as the functions that decide validity look at it. Assumes nothing.
-use Rattle.std.specs.Prelude.{ℕ, Bool, List, length, T, ◌≡◌}
-use Rattle.codec.specs.Plain.{if◌then◌else◌}
+use Rattle.std.specs.Prelude.{ℕ, Bool, List, length, T, ◌≡◌, if◌then◌else◌}
 use Rattle.codec.specs.Code.{Code}
 use Rattle.machine.specs.Message.{Rec}
 use Rattle.iso.specs.Limits.{iso_record_size}

@@ -1,4 +1,5 @@
 -- An advance in the bytes of an ISO 15765 region. Assumes nothing.
+use Rattle.std.specs.Prelude.{if◌then◌else◌}
 use mathlib.Core.Path.{◌≡◌, refl, sym, ap, ap₂, ◌∙◌, subst}
 use Prim.Native.Nat.{ℕ, zero, suc, ◌+◌, ◌*◌, ◌≤◌, ◌<◌}
 use native.Mathlib.Nat.{suc-ne-zero}
@@ -11,7 +12,6 @@ use lib.Seq.{take_all, drop_at, get_or-take, get_or-drop, length-take-le}
 use lib.Dec.{T, leb, ltb, ltb→lt}
 use borrow.Author.Tests.{le-leb}
 use borrow.Rule.Slice.PartMut.{put_mid, mid_of}
-use Rattle.codec.specs.Plain.{if◌then◌else◌}
 use Rattle.codec.specs.Code.{slot, many}
 use Rattle.codec.proofs.Tests.{left, right, T_true, true_T}
 use Rattle.codec.proofs.Lists.{all_map}

@@ -1,4 +1,5 @@
 -- What a message is matched against, out of the bytes of a conversation's place. Assumes nothing.
+use Rattle.std.specs.Prelude.{if◌then◌else◌}
 use mathlib.Core.Path.{◌≡◌, refl, sym, ap, ap₂, ◌∙◌}
 use Prim.Native.Nat.{ℕ}
 use mathlib.Core.Bool.{Bool, true, false, ◌&&◌, ◌||◌, beq, or-false}
@@ -6,7 +7,6 @@ use mathlib.Core.Option.{Option, none, some}
 use mathlib.Core.List.{List, [], ◌∷◌}
 use lib.ListN.{get_or}
 use lib.Dec.{eqb}
-use Rattle.codec.specs.Plain.{if◌then◌else◌}
 use Rattle.codec.specs.Word.{word, word_at}
 use Rattle.codec.specs.Code.{byte, word32, both, via, such, mark, mark_of, slot}
 use Rattle.codec.proofs.Word.{word_back}

@@ -1,7 +1,6 @@
 -- The written messages of an ISO 15765 channel as code meets them, and the conversations that they are matched against. Assumes nothing.
-use Rattle.std.specs.Prelude.{ℕ, ◌≡◌, Bool, not, ◌&&◌, List, [], ◌∷◌, T, ltb, length}
+use Rattle.std.specs.Prelude.{ℕ, ◌≡◌, Bool, not, ◌&&◌, List, [], ◌∷◌, T, ltb, length, if◌then◌else◌}
 use Rattle.std.proofs.Math.Option.{Option, none, some}
-use Rattle.codec.specs.Plain.{if◌then◌else◌}
 use Rattle.codec.specs.Code.{Code, up_to}
 use Rattle.machine.specs.Filter.{Slots, any_slot}
 use Rattle.machine.specs.Message.{id_of, Rec, size_of, wide_of, data_of}

@@ -1,4 +1,5 @@
 -- Sent: the region of an open channel when what was in flight has landed, and with loopback on comes back. Assumes nothing.
+use Rattle.std.specs.Prelude.{if◌then◌else◌}
 use mathlib.Core.Path.{◌≡◌, refl, sym, ap, ◌∙◌, subst}
 use Prim.Native.Nat.{ℕ, ◌+◌}
 use native.Mathlib.Nat.{suc-ne-zero}
@@ -8,7 +9,7 @@ use mathlib.Core.List.{List, []}
 use lib.ListN.{length, get_or, take, drop}
 use lib.Dec.{T}
 use borrow.Rule.Slice.PartMut.{put_mid}
-use Rattle.codec.specs.Plain.{if◌then◌else◌, zeros}
+use Rattle.codec.specs.Plain.{zeros}
 use Rattle.codec.specs.Code.{such, mark_of}
 use Rattle.codec.proofs.Lawful.{such_under}
 use Rattle.codec.proofs.Many.{one_none}

@@ -1,5 +1,6 @@
 -- What the telegrams of a message carry: block by block all its bytes, in order; and the telegram that ends it is the one after whose acknowledge
 -- nothing is under way. Assumes nothing.
+use Rattle.std.specs.Prelude.{if◌then◌else◌}
 use Prim.Native.Nat.{ℕ, zero, suc, ◌+◌, ◌*◌, ◌/◌, ◌%◌, ◌≤◌, ◌<◌, min}
 use mathlib.Core.Path.{◌≡◌, refl, sym, ap, ◌∙◌, subst}
 use mathlib.Core.Bool.{Bool, true, false}
@@ -9,7 +10,6 @@ use lib.ListN.{length, take, drop, length-drop, take-append-drop}
 use lib.Seq.{take-add, take_all}
 use lib.Dec.{eqb, leb}
 use borrow.Author.Tests.{eqb-true, eqb-false, eq-eqb, ne_eqb, leb-true, leb-false}
-use Rattle.codec.specs.Plain.{if◌then◌else◌}
 use Rattle.telegram.specs.Telegram.{data_telegram}
 use Rattle.link.specs.Connection.{Block, telegrams, block_of, next_data}
 

@@ -1,9 +1,8 @@
 -- A TP2.0 connection as active side: request P5 by document 001 (SAE J2819, 5.1.3 to 5.2.3, tables 1 to 8). Its state, the telegram that it
 -- offers, and what a sent, an advance, a received frame and a call make of it. Every timer is kept as the microseconds left of it, so nothing
 -- grows without end. Nothing here can name a channel. Assumes nothing.
-use Rattle.std.specs.Prelude.{ℕ, zero, suc, ◌+◌, ◌*◌, ◌-◌, ◌/◌, ◌%◌, min, Bool, true, false, not, ◌&&◌, ◌||◌, List, [], ◌∷◌, ◌++◌, length, take, drop, eqb, leb, ltb}
+use Rattle.std.specs.Prelude.{ℕ, zero, suc, ◌+◌, ◌*◌, ◌-◌, ◌/◌, ◌%◌, min, Bool, true, false, not, ◌&&◌, ◌||◌, List, [], ◌∷◌, ◌++◌, length, take, drop, eqb, leb, ltb, if◌then◌else◌}
 use Rattle.std.proofs.Math.Option.{Option, none, some}
-use Rattle.codec.specs.Plain.{if◌then◌else◌}
 use Rattle.telegram.specs.Telegram.{Opening, set_up, positive, negative, opening_fits, opening_bytes, read_opening, Telegram, data_telegram, acknowledge, connection, test, break_off, disconnection, own_connection, fits, on_wire, read_channel, time_of}
 
 -- ---- tables 1 and 7: T_E, T_Wait, T_CTa in microseconds; the repeats of an opening telegram, of one that asks, of telegrams asked for again in a

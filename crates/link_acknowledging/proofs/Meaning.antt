@@ -1,10 +1,10 @@
 -- What an acknowledge makes of what is sent is what it makes of the connection. Assumes nothing.
+use Rattle.std.specs.Prelude.{if◌then◌else◌}
 use mathlib.Core.Path.{◌≡◌, refl, sym, ap, ap₂, ◌∙◌}
 use Prim.Native.Nat.{ℕ, ◌+◌}
 use mathlib.Core.Bool.{Bool, true, false, not}
 use mathlib.Core.Option.{Option, none, some}
 use lib.Dec.{eqb, leb, ltb}
-use Rattle.codec.specs.Plain.{if◌then◌else◌}
 use Rattle.link.specs.Connection.{mntb, Asked, Out, idle, sends, asks, Talk, Link, with_talk, Connection, standing, leave, acknowledged}
 use Rattle.link_acknowledging.specs.Acknowledging.{rest_of, restarted, next_of, waiting, accepted, repeated, points_at, acknowledged_in}
 

@@ -1,4 +1,5 @@
 -- The bytes of what is sent: T_Wait, the SN, the message in them, and what an acknowledge makes of them. Assumes nothing.
+use Rattle.std.specs.Prelude.{if◌then◌else◌}
 use mathlib.Core.Path.{◌≡◌, refl, sym, ap, ap₂, ◌∙◌, subst}
 use Prim.Native.Nat.{ℕ, ◌+◌, ◌-◌, ◌%◌, ◌^◌, ◌≤◌, ◌<◌}
 use native.Mathlib.Omega.{arith}
@@ -9,7 +10,6 @@ use lib.ListN.{length, get_or, set, take, drop}
 use lib.Dec.{T, leb, ltb, lit<, lt→ltb}
 use borrow.Author.Tests.{eq-eqb, ne_eqb, lt-ltb, le-ltb, le-leb, lt-leb}
 use borrow.Rule.Slice.PartMut.{put_mid}
-use Rattle.codec.specs.Plain.{if◌then◌else◌}
 use Rattle.codec.specs.Word.{word}
 use Rattle.codec.specs.Code.{byte, word32, both, via, such}
 use Rattle.codec.proofs.Tests.{join, by_test}

@@ -1,8 +1,7 @@
 -- What an acknowledge and a break make of what is sent, by itself. That the judge's `acknowledged` and `broken` are these is proved in proofs/Meaning.
 -- Assumes nothing.
-use Rattle.std.specs.Prelude.{ℕ, ◌+◌, ◌-◌, ◌%◌, Bool, not, List, [], eqb, leb, ltb}
+use Rattle.std.specs.Prelude.{ℕ, ◌+◌, ◌-◌, ◌%◌, Bool, not, List, [], eqb, leb, ltb, if◌then◌else◌}
 use Rattle.std.proofs.Math.Option.{Option, none, some}
-use Rattle.codec.specs.Plain.{if◌then◌else◌}
 use Rattle.link.specs.Connection.{t_wait, mntb, Block, new_block, telegrams, Out, idle, sends, asks, Talk, next_block}
 
 -- the message's bytes, [] where there is none; a message's block begun anew at a telegram of it

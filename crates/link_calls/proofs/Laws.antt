@@ -1,4 +1,5 @@
 -- A message to send and one that was received, in the bytes of a connection. Assumes nothing.
+use Rattle.std.specs.Prelude.{if◌then◌else◌}
 use mathlib.Core.Path.{◌≡◌, refl, sym, ap, ap₂, ◌∙◌, subst}
 use Prim.Native.Nat.{ℕ, ◌+◌, ◌-◌, ◌≤◌, ◌<◌}
 use native.Mathlib.Omega.{arith}
@@ -8,7 +9,7 @@ use lib.ListN.{length, get_or, set, take, drop, drop_of_length-le}
 use lib.Seq.{take_at, drop-drop, take_all}
 use lib.Dec.{T, eqb}
 use borrow.Rule.Slice.PartMut.{put_mid}
-use Rattle.codec.specs.Plain.{if◌then◌else◌, zeros}
+use Rattle.codec.specs.Plain.{zeros}
 use Rattle.codec.specs.Word.{word}
 use Rattle.codec.specs.Code.{byte, word32, both, via, such, mark, mark_of, text}
 use Rattle.codec.proofs.Tests.{left, right}

@@ -1,4 +1,5 @@
 -- The bytes of what is received: the SN expected, the acknowledge that waits, the complete mark, the message. Assumes nothing.
+use Rattle.std.specs.Prelude.{if◌then◌else◌}
 use mathlib.Core.Path.{◌≡◌, refl, sym, ap, ap₂, ◌∙◌}
 use Prim.Native.Nat.{ℕ, ◌+◌, ◌%◌, ◌≤◌, ◌<◌}
 use native.Mathlib.Omega.{arith}
@@ -9,7 +10,6 @@ use lib.ListN.{length, get_or, set, take, drop, length-append}
 use lib.Dec.{T, eqb, ltb}
 use borrow.Author.Tests.{eq-eqb, ne_eqb, lt-ltb, le-ltb}
 use borrow.Rule.Slice.PartMut.{put_mid}
-use Rattle.codec.specs.Plain.{if◌then◌else◌}
 use Rattle.codec.specs.Code.{byte, both, via, such, mark, mark_of, text}
 use Rattle.codec.proofs.Tests.{left, right}
 use Rattle.codec.proofs.Present.{text_lawful}

@@ -1,8 +1,7 @@
 -- What data makes of what is received, by itself: none where they end the connection. That the judge's `data_heard` is this is proved in proofs/Meaning.
 -- Assumes nothing.
-use Rattle.std.specs.Prelude.{ℕ, ◌+◌, Bool, true, false, not, List, length, eqb, ltb}
+use Rattle.std.specs.Prelude.{ℕ, ◌+◌, Bool, true, false, not, List, length, eqb, ltb, if◌then◌else◌}
 use Rattle.std.proofs.Math.Option.{Option, none, some}
-use Rattle.codec.specs.Plain.{if◌then◌else◌}
 use Rattle.link.specs.Connection.{longest, Hear, heard_data, answering}
 
 unfoldable pub hearing : Bool → Bool → ℕ → List ℕ → Hear → Option Hear

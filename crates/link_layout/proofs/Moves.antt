@@ -1,4 +1,5 @@
 -- A connection keeps what its part of the region can hold, whatever reaches it: a take, a sent, an advance, a frame, each call. Assumes nothing.
+use Rattle.std.specs.Prelude.{if◌then◌else◌}
 use mathlib.Core.Path.{◌≡◌, refl, sym, ap, ◌∙◌, subst}
 use Prim.Native.Nat.{ℕ, zero, suc, ◌+◌, ◌*◌, ◌-◌, ◌/◌, ◌%◌, ◌^◌, ◌≤◌, ◌<◌, min}
 use native.Mathlib.Omega.{arith}
@@ -9,7 +10,7 @@ use lib.ListN.{length, take, drop, length-drop, length-append}
 use lib.Seq.{length-take-le}
 use lib.Dec.{T, T_not, eqb, leb, ltb, eqb→eq, eqb_refl, leb→le, le→leb, ltb→lt, lt→ltb, nleb→lt, nltb→le, lit<}
 use borrow.Author.Tests.{eqb-true, eqb-false, ltb-true, ltb-false, leb-true, leb-false}
-use Rattle.codec.specs.Plain.{if◌then◌else◌, within, member, all, is_byte}
+use Rattle.codec.specs.Plain.{within, member, all, is_byte}
 use Rattle.codec.specs.Word.{word, word_at}
 use Rattle.codec.specs.Code.{Code, byte, word32, both, via, such, text}
 use Rattle.codec.proofs.Tests.{by_test, by_both, yes, left, right, join, T_true, true_T, or_either, or_left, or_right, within_low, within_high}

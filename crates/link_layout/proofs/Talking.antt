@@ -1,4 +1,5 @@
 -- What a connection does keeps what its part of the region can hold: plain facts of each part, made and taken out. Assumes nothing.
+use Rattle.std.specs.Prelude.{if◌then◌else◌}
 use mathlib.Core.Path.{◌≡◌, refl, sym, ap, ◌∙◌, subst}
 use Prim.Native.Nat.{ℕ, zero, suc, ◌+◌, ◌*◌, ◌-◌, ◌/◌, ◌%◌, ◌^◌, ◌≤◌, ◌<◌, min}
 use native.Mathlib.Omega.{arith}
@@ -7,7 +8,7 @@ use mathlib.Core.Option.{Option, none, some}
 use mathlib.Core.List.{List, [], ◌∷◌, ◌++◌}
 use lib.ListN.{length, get_or, take, drop}
 use lib.Dec.{T, eqb, leb, ltb, eqb→eq, eqb_refl, leb→le, le→leb, ltb→lt, lt→ltb, nleb→lt, nltb→le, lit<}
-use Rattle.codec.specs.Plain.{if◌then◌else◌, within, all, is_byte}
+use Rattle.codec.specs.Plain.{within, all, is_byte}
 use Rattle.codec.specs.Code.{Code, byte, word32, both, both_on, via, such, mark, present, text}
 use Rattle.codec.proofs.Tests.{left, right, join, or_either, or_left, or_right, within_low, within_high}
 use Rattle.codec.proofs.Lawful.{mark_ok}

@@ -1,8 +1,8 @@
 -- The TP2.0 connection in its part of a channel's region: how its state lies in bytes, and what each field may be. What plays no part in a state is zeros.
 -- Assumes nothing.
-use Rattle.std.specs.Prelude.{ℕ, zero, suc, ◌+◌, Bool, true, false, not, ◌&&◌, ◌||◌, List, [], length, eqb, leb, ltb}
+use Rattle.std.specs.Prelude.{ℕ, zero, suc, ◌+◌, Bool, true, false, not, ◌&&◌, ◌||◌, List, [], length, eqb, leb, ltb, if◌then◌else◌}
 use Rattle.std.proofs.Math.Option.{Option, none, some}
-use Rattle.codec.specs.Plain.{if◌then◌else◌, within}
+use Rattle.codec.specs.Plain.{within}
 use Rattle.codec.specs.Code.{Code, byte, word32, both, both_on, via, such, mark, present, text}
 use Rattle.link.specs.Connection.{t_e, t_wait, t_test, mntc, mnt, mntb, mnct, longest, micros, Asked, asked_fits, Trial, waits, flies, runs, Block, block_of, Out, idle, sends, asks, Talk, Hear, Care, its_data, its_test, its_other, Wire, spaced, carries, Link, Exit, due_in, due_behind, goes, Connection, absent, opening, connecting, standing, leaving}
 

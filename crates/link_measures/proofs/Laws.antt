@@ -1,4 +1,5 @@
 -- The telegrams of a message and of a block by the number of bytes. Assumes nothing.
+use Rattle.std.specs.Prelude.{if◌then◌else◌}
 use mathlib.Core.Path.{◌≡◌, refl, sym, ap}
 use Prim.Native.Nat.{ℕ, ◌+◌, ◌*◌, ◌/◌, ◌%◌, ◌≤◌, ◌<◌}
 use native.Mathlib.Omega.{arith}
@@ -7,7 +8,6 @@ use mathlib.Core.List.{List, [], ◌∷◌}
 use lib.ListN.{length, get_or}
 use lib.Dec.{eqb}
 use borrow.Author.Tests.{eqb-true, eqb-false}
-use Rattle.codec.specs.Plain.{if◌then◌else◌}
 use Rattle.link.specs.Connection.{micros, telegrams, block_of}
 use Rattle.telegram.specs.Telegram.{time_of}
 

@@ -1,4 +1,5 @@
 -- What a standing connection gives, on its bytes. Assumes nothing.
+use Rattle.std.specs.Prelude.{if◌then◌else◌}
 use mathlib.Core.Path.{◌≡◌, refl, sym, ap, ap₂, ◌∙◌, subst}
 use Prim.Native.Nat.{ℕ, zero, suc, ◌+◌, ◌≤◌, ◌<◌, ◌^◌}
 use native.Mathlib.Omega.{arith}
@@ -8,7 +9,6 @@ use mathlib.Core.List.{List, ◌∷◌}
 use lib.ListN.{get_or, set, take, drop}
 use lib.Dec.{T, eqb, ltb→lt}
 use borrow.Author.Tests.{eq-eqb, ne_eqb}
-use Rattle.codec.specs.Plain.{if◌then◌else◌}
 use Rattle.codec.specs.Word.{word, word_at}
 use Rattle.codec.specs.Code.{byte, word32, both, via, such, mark, mark_of}
 use Rattle.codec.proofs.Part.{byte_of, word_of}

@@ -1,11 +1,11 @@
 -- What a reply means to the set-up, by its fields. Assumes nothing.
+use Rattle.std.specs.Prelude.{if◌then◌else◌}
 use mathlib.Core.Path.{◌≡◌, sym, ap, ap₂, ◌∙◌}
 use Prim.Native.Nat.{ℕ, ◌%◌}
 use mathlib.Core.Bool.{Bool, ◌&&◌}
 use mathlib.Core.Option.{some}
 use mathlib.Core.List.{List}
 use lib.Dec.{eqb}
-use Rattle.codec.specs.Plain.{if◌then◌else◌}
 use Rattle.telegram.specs.Telegram.{positive, negative}
 use Rattle.link.specs.Connection.{Asked, Trial, waits, absent, opening, connecting, replied}
 use Rattle.link_replies.specs.Meaning.{Asks}

@@ -1,4 +1,5 @@
 -- A frame that reaches a connection which opens: the bytes after it, by what the frame means. Assumes nothing.
+use Rattle.std.specs.Prelude.{if◌then◌else◌}
 use mathlib.Core.Path.{◌≡◌, sym, ap, ◌∙◌}
 use Prim.Native.Nat.{ℕ, ◌+◌}
 use mathlib.Core.Bool.{Bool, true, false}
@@ -6,7 +7,6 @@ use mathlib.Core.List.{List}
 use lib.ListN.{get_or}
 use lib.Dec.{eqb}
 use borrow.Author.Tests.{eq-eqb, ne_eqb}
-use Rattle.codec.specs.Plain.{if◌then◌else◌}
 use Rattle.codec.specs.Word.{word_at}
 use Rattle.telegram.specs.Telegram.{read_opening}
 use Rattle.link.specs.Connection.{Asked, Trial, Connection, opening, replied, hears}

@@ -1,4 +1,5 @@
 -- The bytes of a connection's parts when a telegram was sent. Assumes nothing.
+use Rattle.std.specs.Prelude.{if◌then◌else◌}
 use mathlib.Core.Path.{◌≡◌, refl, sym, ap, ◌∙◌, subst}
 use Prim.Native.Nat.{ℕ, ◌+◌, ◌≤◌, ◌<◌, ◌^◌}
 use native.Mathlib.Omega.{arith}
@@ -8,7 +9,6 @@ use lib.ListN.{length, get_or, set}
 use lib.Dec.{T, eqb, leb→le}
 use borrow.Author.Tests.{eq-eqb, ne_eqb}
 use borrow.Rule.Slice.PartMut.{put_mid}
-use Rattle.codec.specs.Plain.{if◌then◌else◌}
 use Rattle.codec.specs.Word.{word, word_at}
 use Rattle.codec.specs.Code.{Code, byte, word32, both, via, such, mark, many, mark_of, text, text_parts}
 use Rattle.codec.proofs.Tests.{left, right}

@@ -1,6 +1,5 @@
 -- What a sent starts in a part of a connection: T_E of an opening telegram, T3 before a disconnect telegram, T_CTa of a test. Assumes nothing.
-use Rattle.std.specs.Prelude.{ℕ, eqb}
-use Rattle.codec.specs.Plain.{if◌then◌else◌}
+use Rattle.std.specs.Prelude.{ℕ, eqb, if◌then◌else◌}
 use Rattle.link.specs.Connection.{t_test, micros, Trial, trial_sent, Care, Exit, due_in, due_behind, goes}
 
 -- an opening telegram with its repeats

@@ -1,7 +1,6 @@
 -- An opening telegram with its repeats, some microseconds later. Assumes nothing.
-use Rattle.std.specs.Prelude.{ℕ, ◌+◌, ◌-◌, leb, ltb}
+use Rattle.std.specs.Prelude.{ℕ, ◌+◌, ◌-◌, leb, ltb, if◌then◌else◌}
 use Rattle.std.proofs.Math.Option.{Option, none, some}
-use Rattle.codec.specs.Plain.{if◌then◌else◌}
 use Rattle.link.specs.Connection.{mntc, Trial, waits, flies, runs}
 
 -- when T_E is over it waits again, up to ten times; none where that is past

@@ -1,4 +1,5 @@
 -- The bytes of a connection some microseconds later where it doesn't stand, state by state. Assumes nothing.
+use Rattle.std.specs.Prelude.{if◌then◌else◌}
 use mathlib.Core.Path.{◌≡◌, refl, sym, ap, ◌∙◌, subst}
 use Prim.Native.Nat.{ℕ, ◌+◌, ◌-◌}
 use mathlib.Core.Bool.{Bool, true, false}
@@ -7,7 +8,6 @@ use mathlib.Core.List.{List}
 use lib.ListN.{length, get_or, take, drop}
 use lib.Dec.{T, leb, ltb}
 use borrow.Rule.Slice.PartMut.{put_mid}
-use Rattle.codec.specs.Plain.{if◌then◌else◌}
 use Rattle.codec.specs.Code.{Code}
 use Rattle.codec.proofs.Part.{Part}
 use Rattle.link.specs.Connection.{mntc, Trial, waits, flies, runs, wire_later, Exit, exit_later, Connection, absent, opening, connecting, standing, leaving, state_of, tried, passing, ended}

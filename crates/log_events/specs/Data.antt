@@ -1,7 +1,6 @@
 -- The data of a line that were read, and the mark of a width. Assumes nothing.
-use Rattle.std.specs.Prelude.{ℕ, ◌≡◌, Bool, List}
+use Rattle.std.specs.Prelude.{ℕ, ◌≡◌, Bool, List, if◌then◌else◌}
 use Rattle.std.proofs.Math.Option.{some}
-use Rattle.codec.specs.Plain.{if◌then◌else◌}
 use Rattle.candump.specs.Line.{data_in}
 use Rattle.log_reader.specs.Reading.{data_of}
 

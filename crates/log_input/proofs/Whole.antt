@@ -1,5 +1,6 @@
 -- A LOG THAT IS CUT: what is read of it are whole lines, and the line behind them has the number that is told; an import of them that stops is the import
 -- of the whole log, whatever stands behind them. Assumes nothing.
+use Rattle.std.specs.Prelude.{if◌then◌else◌}
 use Prim.Native.Nat.{ℕ, ◌+◌, ◌≤◌, ◌<◌}
 use mathlib.Core.Path.{◌≡◌, refl, sym, ap, ◌∙◌, subst}
 use mathlib.Core.Bool.{Bool, true, false}
@@ -9,7 +10,6 @@ use borrow.Author.Tests.{eq-eqb, ne_eqb, eqb-true, eqb-false}
 use lib.Dec.{eqb, ltb}
 use lib.ListN.{length, take, drop, length-append, length-take, take-append-drop}
 use lib.Seq.{take_at, take-take}
-use Rattle.codec.specs.Plain.{if◌then◌else◌}
 use Rattle.candump.specs.Line.{Logged, Said, malformed, unknown, tells, line_in}
 use Rattle.candump.specs.Log.{newline, glue, lines_of, bytes_all, line_events, room, goes_back, does_not_fit, Import, whole, stopped, taking, importing, imported}
 use Rattle.log_input.specs.Cut.{longest_log, cut_at, whole_from, whole_of, cut_of}

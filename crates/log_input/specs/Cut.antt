@@ -1,6 +1,5 @@
 -- How much of a log is read. Assumes nothing.
-use Rattle.std.specs.Prelude.{ℕ, ◌+◌, List, [], ◌∷◌, eqb, leb, length, take}
-use Rattle.codec.specs.Plain.{if◌then◌else◌}
+use Rattle.std.specs.Prelude.{ℕ, ◌+◌, List, [], ◌∷◌, eqb, leb, length, take, if◌then◌else◌}
 use Rattle.candump.specs.Log.{newline}
 use Rattle.log_input.specs.declared.Cut.{Cut}
 

@@ -1,4 +1,5 @@
 -- A text is cut where a byte is found. Assumes nothing.
+use Rattle.std.specs.Prelude.{if◌then◌else◌}
 use Prim.Native.Nat.{ℕ, zero, suc, ◌+◌, ◌-◌, ◌≤◌, ◌<◌}
 use mathlib.Core.Path.{◌≡◌, refl, sym, ap, ap₂, ◌∙◌}
 use mathlib.Core.Bool.{Bool, true, false}
@@ -9,7 +10,6 @@ use borrow.Author.Tests.{eq-eqb, ne_eqb}
 use lib.Dec.{eqb}
 use lib.ListN.{length, get_or, take, drop, length-drop}
 use lib.Seq.{drop-drop, drop-cons}
-use Rattle.codec.specs.Plain.{if◌then◌else◌}
 use Rattle.text_reader.specs.Reading.{before}
 use Rattle.candump.specs.Line.{cut, behind}
 

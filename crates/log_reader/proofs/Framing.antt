@@ -1,4 +1,5 @@
 -- The frame of a line, part after part. Assumes nothing.
+use Rattle.std.specs.Prelude.{if◌then◌else◌}
 use Prim.Native.Nat.{ℕ, ◌+◌, ◌-◌, ◌≤◌, ◌<◌}
 use mathlib.Core.Path.{◌≡◌, refl, sym, ap, ◌∙◌}
 use mathlib.Core.Bool.{Bool, true, false}
@@ -7,7 +8,6 @@ use mathlib.Core.Option.{Option, none, some, bind}
 use native.Mathlib.Omega.{arith}
 use lib.ListN.{length, take, drop, length-drop}
 use lib.Seq.{take_all}
-use Rattle.codec.specs.Plain.{if◌then◌else◌}
 use Rattle.text_reader.specs.Reading.{before}
 use Rattle.candump.specs.Line.{hash, cut, both_in, few_in, frame_in}
 use Rattle.log_reader.specs.Reading.{identified, data_of, data_good, carried, FrameReads}

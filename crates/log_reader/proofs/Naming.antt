@@ -1,4 +1,5 @@
 -- The name of a line: four bytes, or unknown. Assumes nothing.
+use Rattle.std.specs.Prelude.{if◌then◌else◌}
 use Prim.Native.Nat.{ℕ, zero, suc, ◌+◌, ◌-◌, ◌≤◌, ◌<◌}
 use mathlib.Core.Path.{◌≡◌, refl, sym, ap, ◌∙◌}
 use mathlib.Core.Bool.{Bool, true, false, ◌&&◌}
@@ -8,7 +9,7 @@ use native.Mathlib.Omega.{arith}
 use borrow.Author.Tests.{le-leb, lt-leb}
 use lib.Dec.{eqb, leb}
 use lib.ListN.{length, get_or}
-use Rattle.codec.specs.Plain.{if◌then◌else◌, within}
+use Rattle.codec.specs.Plain.{within}
 use Rattle.machine.specs.Limits.{last_line}
 use Rattle.candump.specs.Line.{nought, can, behind, only, digit_only, bus_in}
 use Rattle.log_reader.specs.Reading.{bus_of}

@@ -1,4 +1,5 @@
 -- A line, part after part. Assumes nothing.
+use Rattle.std.specs.Prelude.{if◌then◌else◌}
 use Prim.Native.Nat.{ℕ, suc, ◌+◌, ◌-◌, ◌≤◌, ◌<◌}
 use mathlib.Core.Path.{◌≡◌, refl, sym, ap, ◌∙◌, subst}
 use mathlib.Core.Bool.{Bool, true, false}
@@ -9,7 +10,6 @@ use borrow.Author.Tests.{lt-ltb, le-ltb, le-leb, lt-leb}
 use lib.Dec.{leb, ltb}
 use lib.ListN.{length, get_or, take, drop, length-take, length-drop}
 use lib.Seq.{length-take-le}
-use Rattle.codec.specs.Plain.{if◌then◌else◌}
 use Rattle.machine.specs.Limits.{last_line}
 use Rattle.text_reader.specs.Reading.{before}
 use Rattle.candump.specs.Line.{blank, cut, behind, only, frame_in, Words, words, name_in, time_in, words_in, bus_in, Said, malformed, unknown, tells, logged, named, said_by, line_in}

@@ -1,4 +1,5 @@
 -- The time of a line, part after part. Assumes nothing.
+use Rattle.std.specs.Prelude.{if◌then◌else◌}
 use Prim.Native.Nat.{ℕ, zero, suc, ◌+◌, ◌-◌, ◌*◌, ◌/◌, ◌%◌, ◌^◌, ◌≤◌, ◌<◌}
 use mathlib.Core.Path.{◌≡◌, refl, sym, ap, ap₂, ◌∙◌}
 use mathlib.Core.List.{List, [], ◌∷◌}
@@ -8,7 +9,6 @@ use borrow.Author.Tests.{eq-eqb, ne_eqb}
 use lib.Dec.{eqb}
 use lib.ListN.{length, get_or, take, drop, length-take, length-drop}
 use lib.Seq.{length-take-le}
-use Rattle.codec.specs.Plain.{if◌then◌else◌}
 use Rattle.text.specs.Text.{value_of, number_of}
 use Rattle.text.proofs.Text.{number_some}
 use Rattle.text_reader.specs.Reading.{before, far, near, near_value}

@@ -1,7 +1,6 @@
 -- What the readers of a line answer, in the words of the grammar. Assumes nothing.
-use Rattle.std.specs.Prelude.{ℕ, ◌+◌, ◌*◌, ◌/◌, ◌%◌, ◌≤◌, ◌≡◌, Bool, List, [], ◌∷◌, leb, length, drop}
+use Rattle.std.specs.Prelude.{ℕ, ◌+◌, ◌*◌, ◌/◌, ◌%◌, ◌≤◌, ◌≡◌, Bool, List, [], ◌∷◌, leb, length, drop, if◌then◌else◌}
 use Rattle.std.proofs.Math.Option.{Option, none, some, map}
-use Rattle.codec.specs.Plain.{if◌then◌else◌}
 use Rattle.machine.specs.Limits.{last_line}
 use Rattle.text_reader.specs.Reading.{digit_of, near}
 use Rattle.candump.specs.Line.{second, Logged, Said, malformed, unknown, tells, time_in, few_in, frame_in, line_in}

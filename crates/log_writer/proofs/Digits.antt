@@ -1,4 +1,5 @@
 -- Digits written from the last to the first, and how many a number has. Assumes nothing.
+use Rattle.std.specs.Prelude.{if◌then◌else◌}
 use Prim.Native.Nat.{ℕ, zero, suc, ◌+◌, ◌-◌, ◌*◌, ◌/◌, ◌%◌, ◌^◌, ◌≤◌, ◌<◌}
 use mathlib.Core.Path.{◌≡◌, refl, sym, ap, ap₂, ◌∙◌, subst}
 use mathlib.Core.Bool.{Bool, true, false}
@@ -9,7 +10,6 @@ use borrow.Author.Tests.{lt-ltb, le-ltb, ltb-true, ltb-false}
 use lib.Dec.{ltb}
 use lib.ListN.{length, set, length-append, length-set}
 use lib.Seq.{sets, sets-eq, set_comm}
-use Rattle.codec.specs.Plain.{if◌then◌else◌}
 use Rattle.text.specs.Text.{digit, fixed, short, decimal}
 use Rattle.text.proofs.Text.{fixed_long, short_one, short_more}
 use Rattle.answers.specs.Put.{Put}

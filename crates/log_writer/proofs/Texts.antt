@@ -1,4 +1,5 @@
 -- The texts of a line's pieces, as they are written. Assumes nothing.
+use Rattle.std.specs.Prelude.{if◌then◌else◌}
 use Prim.Native.Nat.{ℕ, zero, suc, ◌+◌, ◌/◌, ◌%◌, ◌≤◌, ◌<◌}
 use mathlib.Core.Path.{◌≡◌, refl, sym, ap, ◌∙◌}
 use mathlib.Core.Bool.{Bool, true, false}
@@ -7,7 +8,6 @@ use native.Mathlib.Omega.{arith}
 use native.Mathlib.Numerals.{add-one}
 use lib.ListN.{length, get_or, take, drop, length-append, drop_of_length-le}
 use lib.Seq.{drop-cons}
-use Rattle.codec.specs.Plain.{if◌then◌else◌}
 use Rattle.text.specs.Text.{fixed, decimal}
 use Rattle.text.proofs.Text.{fixed_long}
 use Rattle.candump.specs.Line.{second, hash, opens, point, closes, blank, can, nought, id_digits, data_text, frame_text, name_text, micro_text, line_text}

@@ -1,4 +1,5 @@
 -- Every data of 0 to 8 bytes: what a test of all of them tells, and the three answers. Assumes nothing.
+use Rattle.std.specs.Prelude.{if◌then◌else◌}
 use mathlib.Core.Path.{◌≡◌, refl, sym, ap, ◌∙◌}
 use mathlib.Core.Logic.{◌⊎◌, inl, inr, ⊎_elim}
 use Prim.Native.Nat.{ℕ, zero, suc, ◌<◌}
@@ -8,7 +9,7 @@ use mathlib.Core.Bool.{Bool, true, false, not, ◌&&◌}
 use mathlib.Core.List.{List, [], ◌∷◌, ◌++◌}
 use lib.Dec.{T, ltb→lt, lt→ltb}
 use lib.ListN.{length}
-use Rattle.codec.specs.Plain.{if◌then◌else◌, all, is_byte, all_below}
+use Rattle.codec.specs.Plain.{all, is_byte, all_below}
 use Rattle.codec.proofs.Tests.{left, right, join}
 use Rattle.machine.specs.Filter.{Slots, Filter, passes}
 use Rattle.machine.specs.Message.{width_flag, id_bytes, takes, received}

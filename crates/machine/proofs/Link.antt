@@ -1,11 +1,11 @@
 -- A call on an open channel whose code is not 0x00 leaves the channel's TP2.0 connection: a refusal leaves everything, and a write, a read or a list that
 -- ends with another code does not touch it. Assumes nothing.
+use Rattle.std.specs.Prelude.{if◌then◌else◌}
 use Prim.Native.Nat.{ℕ}
 use mathlib.Core.Path.{◌≡◌, refl}
 use mathlib.Core.Bool.{Bool}
 use mathlib.Core.Option.{Option, none, some}
 use mathlib.Core.List.{List}
-use Rattle.codec.specs.Plain.{if◌then◌else◌}
 use Rattle.link.specs.Connection.{Connection, absent, Offer}
 use Rattle.machine.specs.Store.{read_whole}
 use Rattle.machine.specs.Message.{Rec}

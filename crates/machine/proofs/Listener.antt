@@ -1,10 +1,11 @@
 -- A listener: what it refuses, and that all else is as on any channel. Assumes nothing.
+use Rattle.std.specs.Prelude.{if◌then◌else◌}
 use mathlib.Core.Path.{◌≡◌, refl, sym, ap, ◌∙◌}
 use Prim.Native.Nat.{ℕ, ◌+◌}
 use mathlib.Core.Bool.{Bool, true, false, ◌&&◌}
 use mathlib.Core.List.{List, [], ◌∷◌}
 use lib.Dec.{T}
-use Rattle.codec.specs.Plain.{if◌then◌else◌, member}
+use Rattle.codec.specs.Plain.{member}
 use Rattle.codec.proofs.Lists.{of_member}
 use Rattle.machine.specs.Message.{bit, takes}
 use Rattle.machine.specs.Channel.{Open, opened, Call, listens, speaks_out, muted, is_flags, is_raw_flags, lent, says, on_open, on_call}

@@ -1,5 +1,6 @@
 -- One parameter and a list of them on a channel's configuration: the codes that there are, a list one pair at a time, and the same of the calls
 -- on a channel. Assumes nothing.
+use Rattle.std.specs.Prelude.{if◌then◌else◌}
 use mathlib.Core.Path.{◌≡◌, refl, ap, ◌∙◌}
 use Prim.Native.Nat.{ℕ, zero, suc, ◌≤◌, ◌<◌}
 use native.Mathlib.Nat.{suc-ne-zero}
@@ -9,7 +10,7 @@ use mathlib.Core.Logic.{◌⊎◌, inl, inr}
 use lib.ListN.{length}
 use lib.Dec.{eqb}
 use borrow.Author.Tests.{eq-eqb, ne_eqb, lt-ltb, le-ltb}
-use Rattle.codec.specs.Plain.{if◌then◌else◌, within, member}
+use Rattle.codec.specs.Plain.{within, member}
 use Rattle.machine.specs.Codes.{code_of}
 use Rattle.machine.specs.Limits.{most_pairs}
 use Rattle.machine.specs.Channel.{Config, Open, opened, Pairs, flat, says, unless, get_in, set_in, set_all, get_all, set_to, list_code, on_get_list, on_set_list}

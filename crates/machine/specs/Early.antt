@@ -1,7 +1,7 @@
 -- Request P9, decided on the identifier alone: what the filters' verdict is for every data of 0 to 8 bytes. The definition tries them all; no code
 -- does. Assumes nothing.
-use Rattle.std.specs.Prelude.{ℕ, zero, suc, ◌≤◌, ◌≡◌, Bool, true, false, not, List, [], ◌∷◌, ◌++◌, T, length}
-use Rattle.codec.specs.Plain.{if◌then◌else◌, all, is_byte, all_below}
+use Rattle.std.specs.Prelude.{ℕ, zero, suc, ◌≤◌, ◌≡◌, Bool, true, false, not, List, [], ◌∷◌, ◌++◌, T, length, if◌then◌else◌}
+use Rattle.codec.specs.Plain.{all, is_byte, all_below}
 use Rattle.machine.specs.Filter.{Slots, Filter, passes}
 
 -- the test passes for every data of n bytes

@@ -1,8 +1,8 @@
 -- Request P13's saved set-ups: what is kept of a channel, its bytes in both versions, and how the parts of a store are read. What a channel of its
 -- flags takes of them, and the calls, are `Channel`'s. Assumes nothing.
-use Rattle.std.specs.Prelude.{ℕ, zero, suc, Bool, true, false, ◌&&◌, List, [], ◌∷◌, ◌++◌, length, take, eqb, leb}
+use Rattle.std.specs.Prelude.{ℕ, zero, suc, Bool, true, false, ◌&&◌, List, [], ◌∷◌, ◌++◌, length, take, eqb, leb, if◌then◌else◌}
 use Rattle.std.proofs.Math.Option.{Option, none, some}
-use Rattle.codec.specs.Plain.{if◌then◌else◌, within}
+use Rattle.codec.specs.Plain.{within}
 use Rattle.number.specs.Number.{bytes_of}
 use Rattle.number.specs.Reads.{Reads, ◌>>=◌, done, number, bytes, only}
 use Rattle.machine.specs.Limits.{most_places, record_size}

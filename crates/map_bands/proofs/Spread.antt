@@ -1,4 +1,5 @@
 -- One filter's bytes put into a map band by band: of the whole map the bands before one have it, the others are as they were. Assumes nothing.
+use Rattle.std.specs.Prelude.{if◌then◌else◌}
 use mathlib.Core.Path.{◌≡◌, sym, ap, ap₂, ◌∙◌}
 use Prim.Native.Nat.{ℕ, ◌+◌, ◌*◌, ◌/◌, ◌%◌, ◌≤◌, ◌<◌}
 use native.Mathlib.Omega.{arith}
@@ -9,7 +10,6 @@ use lib.ListN.{length, get_or, set, take, drop, length-drop, length-append, drop
 use lib.Seq.{take_at, drop_at, take_all, take-add, drop-drop, get_or-take, get_or-drop, get_or_at, drop-cons, length-take-le, ext_get_or}
 use lib.Bits.{bit_and, bit_or, or_zero_r}
 use borrow.Rule.Slice.PartMut.{put_mid, mid_of, put_same}
-use Rattle.codec.specs.Plain.{if◌then◌else◌}
 use Rattle.codec.proofs.Lists.{copy_more}
 use Rattle.map_rule.specs.Map.{map_size, counted}
 use Rattle.map_rule.proofs.ByMap.{counted_long, counted_at}

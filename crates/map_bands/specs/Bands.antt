@@ -1,8 +1,7 @@
 -- The bytes of one filter in a map. Of an identifier's eleven bits the upper three are the number of its band, the next five that of its byte in the
 -- band, the last three that of its bit. Assumes nothing.
-use Rattle.std.specs.Prelude.{ℕ, ◌/◌, ◌%◌, List, eqb, get_or}
+use Rattle.std.specs.Prelude.{ℕ, ◌/◌, ◌%◌, List, eqb, get_or, if◌then◌else◌}
 use Rattle.std.specs.Int.Bits.{bit_and, bit_or}
-use Rattle.codec.specs.Plain.{if◌then◌else◌}
 use Rattle.map_rule.specs.Map.{map_size, packed, counted}
 
 -- the bytes of a band

@@ -1,4 +1,5 @@
 -- The verdict by maps is the verdict, for every frame and every filter set. Assumes nothing.
+use Rattle.std.specs.Prelude.{if◌then◌else◌}
 use mathlib.Core.Path.{◌≡◌, refl, sym, ap, ap₂, ◌∙◌}
 use mathlib.Core.Logic.{⊎_elim}
 use Prim.Native.Nat.{ℕ, zero, suc, ◌+◌, ◌*◌, ◌/◌, ◌%◌, ◌≤◌, ◌<◌}
@@ -13,7 +14,7 @@ use lib.Seq.{get_or_at}
 use lib.Dec.{eqb, leb}
 use lib.Bits.{bit_and}
 use borrow.Author.Tests.{le-leb, leb-true}
-use Rattle.codec.specs.Plain.{if◌then◌else◌, all_below}
+use Rattle.codec.specs.Plain.{all_below}
 use Rattle.codec.specs.Code.{mark_of}
 use Rattle.machine.specs.Limits.{least_data}
 use Rattle.machine.specs.Message.{id_bytes, id_limit}

@@ -1,4 +1,5 @@
 -- Bits packed into a byte, lists by a function, and the maps of no filters: zeros. Assumes nothing.
+use Rattle.std.specs.Prelude.{if◌then◌else◌}
 use mathlib.Core.Path.{◌≡◌, refl, sym, ap, ap₂, ◌∙◌}
 use Prim.Native.Nat.{ℕ, zero, suc, ◌+◌, ◌*◌, ◌<◌}
 use native.Mathlib.Numerals.{add-one}
@@ -9,7 +10,7 @@ use mathlib.Core.List.{List, [], ◌∷◌, ◌++◌}
 use lib.ListN.{length, set, take, replicate}
 use lib.Seq.{take-suc-set, take_all}
 use lib.Bits.{bit_or, or_block}
-use Rattle.codec.specs.Plain.{if◌then◌else◌, zeros}
+use Rattle.codec.specs.Plain.{zeros}
 use Rattle.codec.specs.Code.{mark_of}
 use Rattle.codec.proofs.Lists.{zeros_join}
 use Rattle.machine.specs.Filter.{Slots, Filter, any_slot, none_yet}

@@ -1,4 +1,5 @@
 -- The map of the filters that a region holds, one place after the other. Assumes nothing.
+use Rattle.std.specs.Prelude.{if◌then◌else◌}
 use mathlib.Core.Path.{◌≡◌, refl, sym, ap, ap₂, ◌∙◌, subst}
 use Prim.Native.Nat.{ℕ, zero, suc, ◌+◌, ◌*◌, ◌/◌, ◌%◌, ◌≤◌, ◌<◌}
 use native.Mathlib.Nat.{not-suc-le-zero, le_of_suc-le-suc}
@@ -12,7 +13,7 @@ use lib.ListN.{length, get_or, take, drop, length-map}
 use lib.Seq.{take_all, get_or-take, get_or-drop}
 use lib.Bits.{bit_and, bit_or, or_zero_r}
 use borrow.Author.Tests.{not-true}
-use Rattle.codec.specs.Plain.{if◌then◌else◌, all, zeros}
+use Rattle.codec.specs.Plain.{all, zeros}
 use Rattle.codec.specs.Code.{via, such, each_via}
 use Rattle.codec.proofs.Tests.{right}
 use Rattle.codec.proofs.Cells.{all_here}

@@ -1,5 +1,6 @@
 -- From what a call's function on a channel's region shows, and its code noted behind it, to what an entry on the whole memory promises: once for all
 -- calls and for both kinds of channel. Assumes nothing.
+use Rattle.std.specs.Prelude.{if◌then◌else◌}
 use mathlib.Core.Path.{◌≡◌, refl, sym, ap, ap₂, ◌∙◌, subst}
 use Prim.Native.Nat.{ℕ, zero, suc, ◌+◌, ◌*◌, ◌-◌, ◌≤◌, ◌<◌}
 use native.Mathlib.Nat.{suc-ne-zero}
@@ -10,7 +11,6 @@ use lib.ListN.{length, get_or, set, take, drop}
 use lib.Seq.{length-take-le, get_or-take, get_or-drop}
 use lib.Dec.{T, eqb, eqb→eq, lit<}
 use borrow.Rule.Slice.PartMut.{put_mid, mid_of, put_same}
-use Rattle.codec.specs.Plain.{if◌then◌else◌}
 use Rattle.codec.specs.Code.{via, slot}
 use Rattle.codec.proofs.Tests.{true_T, or_left}
 use Rattle.machine.specs.Limits.{lines}

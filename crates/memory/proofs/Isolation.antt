@@ -1,5 +1,6 @@
 -- Calls in a row on a lent memory, in bytes: they give the machine's answers and leave the bytes of the machine's state, so demand 3 over the machine
 -- is demand 3 over bytes. On bytes that are no device memory every call gives 0x1A and leaves them, so it holds there too. Assumes nothing.
+use Rattle.std.specs.Prelude.{if◌then◌else◌}
 use mathlib.Core.Path.{◌≡◌, refl, sym, ap, ap₂, ◌∙◌, subst}
 use Prim.Native.Nat.{ℕ, ◌-◌, ◌≤◌, ◌<◌}
 use native.Mathlib.Omega.{arith}
@@ -8,7 +9,6 @@ use mathlib.Core.List.{List, [], ◌∷◌, ◌++◌, map, map-append}
 use lib.ListN.{take, drop}
 use borrow.Author.Tests.{ltb-true, ltb-false}
 use lib.Dec.{T, ltb}
-use Rattle.codec.specs.Plain.{if◌then◌else◌}
 use Rattle.codec.specs.Word.{word}
 use Rattle.codec.specs.Code.{word32}
 use Rattle.codec.proofs.Tests.{true_T}

@@ -1,10 +1,11 @@
 -- Every memory of the whole box reached from power-on is valid: a step keeps what the memory can hold. Assumes nothing.
+use Rattle.std.specs.Prelude.{if◌then◌else◌}
 use mathlib.Core.Path.{◌≡◌, refl}
 use Prim.Native.Nat.{ℕ, suc, ◌^◌, ◌<◌}
 use mathlib.Core.Bool.{Bool}
 use mathlib.Core.List.{List, [], ◌∷◌}
 use lib.Dec.{T, lit<}
-use Rattle.codec.specs.Plain.{if◌then◌else◌, all}
+use Rattle.codec.specs.Plain.{all}
 use Rattle.codec.specs.Code.{word32, both, via, many}
 use Rattle.codec.proofs.Tests.{left, right, join}
 use Rattle.codec.proofs.Lawful.{word_ok, ok_word, both_first, both_second}

@@ -1,5 +1,6 @@
 -- A CALL ON THE CHANNEL WHOSE REGION WAS FOUND: what its function needs of the region, and the law of calls there, once for both kinds of channel; then as
 -- the functions on raw and on ISO 15765 regions say it. Assumes nothing.
+use Rattle.std.specs.Prelude.{if◌then◌else◌}
 use mathlib.Core.Path.{◌≡◌, refl, sym, ap, ap₂, ◌∙◌, subst}
 use Prim.Native.Nat.{ℕ, zero, suc, ◌+◌, ◌*◌, ◌-◌, ◌≤◌, ◌<◌}
 use native.Mathlib.Nat.{suc-ne-zero}
@@ -9,7 +10,7 @@ use mathlib.Core.List.{List, []}
 use lib.ListN.{length, get_or, take, drop}
 use lib.Dec.{T}
 use borrow.Rule.Slice.PartMut.{put_mid, mid_of, put_same, same_len_mid}
-use Rattle.codec.specs.Plain.{if◌then◌else◌, within}
+use Rattle.codec.specs.Plain.{within}
 use Rattle.codec.specs.Word.{word_at}
 use Rattle.codec.proofs.Tests.{true_T}
 use Rattle.machine.specs.Limits.{lines}

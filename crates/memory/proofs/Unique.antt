@@ -1,4 +1,5 @@
 -- DEMAND 1 IN BYTES over the whole box: what a refusal leaves of the memory and the lent buffer, and that every code is in the table. Assumes nothing.
+use Rattle.std.specs.Prelude.{if◌then◌else◌}
 use mathlib.Core.Path.{◌≡◌, refl, sym, ap, ap₂, ◌∙◌, subst}
 use Prim.Native.Nat.{ℕ, zero, suc, ◌+◌, ◌-◌, ◌*◌, ◌≤◌, ◌<◌}
 use native.Mathlib.Omega.{arith}
@@ -9,7 +10,7 @@ use borrow.Author.Tests.{ltb-true, ltb-false}
 use lib.ListN.{get_or, set, get_or-eq_default}
 use lib.Seq.{set_out}
 use lib.Dec.{T, eqb, ltb}
-use Rattle.codec.specs.Plain.{if◌then◌else◌, member}
+use Rattle.codec.specs.Plain.{member}
 use Rattle.codec.proofs.Tests.{true_T}
 use Rattle.machine.specs.Limits.{lines}
 use Rattle.machine.specs.Codes.{step_codes}

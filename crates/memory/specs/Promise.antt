@@ -1,7 +1,6 @@
 -- THE PROMISE of every public call on a lent memory of the whole box: its code, its value, the lent buffer and the memory as it leaves them, for every
 -- memory, valid or not, and every argument. Assumes nothing.
-use Rattle.std.specs.Prelude.{ℕ, zero, suc, ◌+◌, ◌*◌, ◌-◌, ◌≤◌, ◌<◌, ◌≡◌, true, List, [], eqb, length, get_or, set}
-use Rattle.codec.specs.Plain.{if◌then◌else◌}
+use Rattle.std.specs.Prelude.{ℕ, zero, suc, ◌+◌, ◌*◌, ◌-◌, ◌≤◌, ◌<◌, ◌≡◌, true, List, [], eqb, length, get_or, set, if◌then◌else◌}
 use Rattle.machine.specs.Limits.{lines}
 use Rattle.machine.specs.Channel.{Call, raw_only, lent}
 use Rattle.machine.specs.Step.{Event, call, lent_by}

@@ -1,8 +1,8 @@
 -- CALLS IN A ROW on one lent memory: what each gives, what they leave, what of both is one channel's, and the words of the three demands over them,
 -- in bytes, over the whole box. Channels go by their place: place i is channel number i + 1. Assumes nothing.
-use Rattle.std.specs.Prelude.{ℕ, zero, suc, ◌+◌, ◌-◌, ◌*◌, ◌<◌, ◌≡◌, List, [], ◌∷◌, ◌++◌, get_or, set, take, drop, eqb, ltb}
+use Rattle.std.specs.Prelude.{ℕ, zero, suc, ◌+◌, ◌-◌, ◌*◌, ◌<◌, ◌≡◌, List, [], ◌∷◌, ◌++◌, get_or, set, take, drop, eqb, ltb, if◌then◌else◌}
 use Rattle.std.proofs.Math.Option.{Option, none, some}
-use Rattle.codec.specs.Plain.{if◌then◌else◌, member}
+use Rattle.codec.specs.Plain.{member}
 use Rattle.machine.specs.Limits.{lines}
 use Rattle.machine.specs.Channel.{Answer, Pairs, flat, get_parameter, set_parameter, get_list, set_list}
 use Rattle.machine.specs.Step.{Event, connect, call, frame, advance, close, lent_by}

@@ -1,7 +1,6 @@
 -- Reading parts of a list of bytes, one behind the other: of an event, of a saved set-up. Assumes nothing.
-use Rattle.std.specs.Prelude.{ℕ, ◌+◌, Bool, List, leb, length, take, drop}
+use Rattle.std.specs.Prelude.{ℕ, ◌+◌, Bool, List, leb, length, take, drop, if◌then◌else◌}
 use Rattle.std.proofs.Math.Option.{Option, none, some, map, bind}
-use Rattle.codec.specs.Plain.{if◌then◌else◌}
 use Rattle.number.specs.Number.{number_in}
 
 -- what is read at a place of a recording: a value, and the place after its bytes; none where it is bad

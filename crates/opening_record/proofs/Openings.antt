@@ -1,4 +1,5 @@
 -- Laws on the opening telegram that a record says. Assumes nothing.
+use Rattle.std.specs.Prelude.{if◌then◌else◌}
 use Prim.Native.Nat.{ℕ, ◌%◌}
 use mathlib.Core.Path.{◌≡◌, refl, ap, ◌∙◌}
 use mathlib.Core.Bool.{Bool, true, false, ◌&&◌, ◌||◌, and-false}
@@ -7,7 +8,7 @@ use mathlib.Core.List.{List}
 use native.Mathlib.Omega.{arith}
 use lib.Dec.{eqb, leb}
 use borrow.Author.Tests.{leb-true, eqb-true, eqb-false}
-use Rattle.telegram.specs.Bits.{if◌then◌else◌, only_if}
+use Rattle.telegram.specs.Bits.{only_if}
 use Rattle.telegram.specs.Telegram.{AnyTelegram, opening, set_up, positive, negative, is_opening_id, is_destination, is_id, is_negative, any_fits, opening_fits, fields_fit}
 use Rattle.telegram.proofs.Tests.{both, together, tested, stopped}
 use Rattle.telegram_record.specs.Record.{kept}

@@ -1,5 +1,6 @@
 -- The round trips through records: what the reader gives is written as the same bytes, and what the writer writes is read as the same telegram.
 -- Assumes nothing.
+use Rattle.std.specs.Prelude.{if◌then◌else◌}
 use Prim.Native.Nat.{ℕ, zero, suc, ◌+◌, ◌*◌, ◌-◌, ◌^◌, ◌≤◌, ◌<◌, min}
 use mathlib.Core.Path.{◌≡◌, refl, sym, ap, ◌∙◌}
 use mathlib.Core.Bool.{Bool, true, false, ◌||◌}
@@ -13,7 +14,7 @@ use lib.Dec.{eqb, leb, ltb}
 use borrow.Author.Tests.{leb-true, eqb-true, le-leb, ne_eqb, le-ltb}
 use Rattle.codec.specs.Word.{word, word_at}
 use Rattle.codec.proofs.Word.{word_back, word_drop}
-use Rattle.telegram.specs.Bits.{if◌then◌else◌, bit_value, within, are_bytes}
+use Rattle.telegram.specs.Bits.{bit_value, within, are_bytes}
 use Rattle.telegram.specs.Telegram.{AnyTelegram, opening, channel, set_up, positive, negative, data_telegram, acknowledge, connection, test, break_off, disconnection, is_opening_id, is_destination, is_id, is_negative, any_fits, opening_fits, fields_fit, fits, any_bytes, comes, read_any}
 use Rattle.telegram.proofs.Tests.{both, together, tested, let_through, passed, bit_small}
 use Rattle.telegram.proofs.RoundTrip.{any_exact}

@@ -1,4 +1,5 @@
 -- Whether any periodic is pending, by the first pending place. Assumes nothing.
+use Rattle.std.specs.Prelude.{if◌then◌else◌}
 use mathlib.Core.Path.{◌≡◌, refl}
 use Prim.Native.Nat.{ℕ, suc, ◌<◌, ◌≤◌}
 use native.Mathlib.Nat.{not-suc-le-zero, le_of_suc-le-suc}
@@ -7,7 +8,6 @@ use mathlib.Core.Bool.{Bool, true, false, ◌||◌}
 use mathlib.Core.Option.{none, some}
 use mathlib.Core.List.{[], ◌∷◌}
 use lib.ListN.{length}
-use Rattle.codec.specs.Plain.{if◌then◌else◌}
 use Rattle.machine.specs.Filter.{Slots, any_slot}
 use Rattle.machine.specs.Channel.{Periodic}
 use Rattle.machine.specs.Limits.{most_places}

@@ -1,7 +1,6 @@
 -- Which periodics are pending: the first of them, and one that is no longer. Assumes nothing.
-use Rattle.std.specs.Prelude.{ℕ, suc, Bool, false, [], ◌∷◌}
+use Rattle.std.specs.Prelude.{ℕ, suc, Bool, false, [], ◌∷◌, if◌then◌else◌}
 use Rattle.std.proofs.Math.Option.{Option, none, some}
-use Rattle.codec.specs.Plain.{if◌then◌else◌}
 use Rattle.machine.specs.Filter.{Slots}
 use Rattle.machine.specs.Channel.{Periodic, calm}
 

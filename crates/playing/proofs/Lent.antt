@@ -1,5 +1,6 @@
 -- What a read or a take finds in the buffer that it is lent plays no part in its answer but behind what it gives, on a channel of either kind.
 -- Assumes nothing.
+use Rattle.std.specs.Prelude.{if◌then◌else◌}
 use Prim.Native.Nat.{ℕ, ◌+◌, ◌*◌, ◌-◌, ◌≤◌, ◌<◌, min}
 use mathlib.Core.Path.{◌≡◌, refl, sym, ap, ◌∙◌, subst}
 use mathlib.Core.Bool.{Bool, true, false, true≢false}
@@ -10,7 +11,7 @@ use borrow.Author.Tests.{le-ltb, leb-true, leb-false}
 use lib.ListN.{length, take, drop}
 use lib.Dec.{T, eqb, leb, ltb}
 use Rattle.codec.proofs.Tests.{true_T, within_low, within_high, between}
-use Rattle.codec.specs.Plain.{if◌then◌else◌, within}
+use Rattle.codec.specs.Plain.{within}
 use Rattle.machine.specs.Limits.{lines, record_size}
 use Rattle.machine.specs.Codes.{code_of}
 use Rattle.machine.specs.Message.{Rec, shown, shown_all}

@@ -1,4 +1,5 @@
 -- What an event that was read lends is bytes, where its recording is. Assumes nothing.
+use Rattle.std.specs.Prelude.{if◌then◌else◌}
 use Prim.Native.Nat.{ℕ, zero, suc, ◌+◌}
 use mathlib.Core.Bool.{Bool, true, false}
 use mathlib.Core.List.{List, [], ◌∷◌}
@@ -7,7 +8,7 @@ use mathlib.Core.Path.{◌≡◌, ap, subst}
 use native.Mathlib.Omega.{arith}
 use lib.Dec.{T, leb}
 use lib.ListN.{length, get_or, take, drop}
-use Rattle.codec.specs.Plain.{if◌then◌else◌, all, is_byte}
+use Rattle.codec.specs.Plain.{all, is_byte}
 use Rattle.codec.proofs.Lists.{Each, all_take, all_drop}
 use Rattle.machine.specs.Cases.{◌&◌}
 use Rattle.machine.specs.Channel.{start_filter, start_flow}

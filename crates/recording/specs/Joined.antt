@@ -1,6 +1,5 @@
 -- Pieces one after the other: what is left to write from a place on, and what several pieces write together. Assumes nothing.
-use Rattle.std.specs.Prelude.{ℕ, List, [], ◌∷◌, ◌++◌, leb, ltb, length, take}
-use Rattle.codec.specs.Plain.{if◌then◌else◌}
+use Rattle.std.specs.Prelude.{ℕ, List, [], ◌∷◌, ◌++◌, leb, ltb, length, take, if◌then◌else◌}
 use Rattle.recording_sizes.specs.Sizes.{longest}
 use Rattle.whole.specs.Device.{Device}
 use Rattle.edition.specs.Edition.{rates_of}

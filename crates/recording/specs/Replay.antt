@@ -1,9 +1,8 @@
 -- The scope's section "Recording": what the replay of a recording writes, whole and in pieces, and the promise of the function that plays a piece
 -- on a lent memory into a lent buffer.
 -- Assumes nothing.
-use Rattle.std.specs.Prelude.{ℕ, zero, suc, ◌-◌, not, ◌||◌, List, [], ◌++◌, leb, ltb, length, drop}
+use Rattle.std.specs.Prelude.{ℕ, zero, suc, ◌-◌, not, ◌||◌, List, [], ◌++◌, leb, ltb, length, drop, if◌then◌else◌}
 use Rattle.std.proofs.Math.Option.{Option, none, some}
-use Rattle.codec.specs.Plain.{if◌then◌else◌}
 use Rattle.recording_sizes.specs.Sizes.{longest, event_room, bad_number}
 use Rattle.number.specs.Number.{bytes_of}
 use Rattle.machine.specs.Step.{Event}

@@ -1,9 +1,9 @@
 -- The bytes of a record by its channel's number. Assumes nothing.
+use Rattle.std.specs.Prelude.{if◌then◌else◌}
 use Prim.Native.Nat.{ℕ, ◌≤◌}
 use mathlib.Core.Bool.{Bool, true, false}
 use mathlib.Core.Path.{◌≡◌}
 use native.Mathlib.Omega.{arith}
-use Rattle.codec.specs.Plain.{if◌then◌else◌}
 use Rattle.machine.specs.Limits.{record_size}
 use Rattle.iso.specs.Limits.{iso_record_size}
 use Rattle.recording_sizes.specs.Sizes.{on_iso, record_on}

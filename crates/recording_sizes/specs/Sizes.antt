@@ -1,6 +1,6 @@
 -- The numbers of the scope's section "Recording", each said once. Assumes nothing.
-use Rattle.std.specs.Prelude.{ℕ, ◌+◌, ◌*◌, Bool}
-use Rattle.codec.specs.Plain.{if◌then◌else◌, within}
+use Rattle.std.specs.Prelude.{ℕ, ◌+◌, ◌*◌, Bool, if◌then◌else◌}
+use Rattle.codec.specs.Plain.{within}
 use Rattle.machine.specs.Limits.{record_size}
 use Rattle.iso.specs.Limits.{first_iso, iso_record_size}
 use Rattle.whole.specs.Device.{channels}

@@ -1,4 +1,5 @@
 -- The body of a store part by part, and where it stands. Assumes nothing.
+use Rattle.std.specs.Prelude.{if◌then◌else◌}
 use Prim.Native.Nat.{ℕ, ◌≤◌}
 use mathlib.Core.Path.{◌≡◌, sym, ap, ◌∙◌}
 use mathlib.Core.Bool.{Bool, true, false}
@@ -6,7 +7,7 @@ use mathlib.Core.Option.{some}
 use mathlib.Core.List.{List}
 use borrow.Author.Tests.{eq-eqb, ne_eqb}
 use lib.Dec.{eqb, leb, leb→le}
-use Rattle.codec.specs.Plain.{if◌then◌else◌, member}
+use Rattle.codec.specs.Plain.{member}
 use Rattle.number.specs.Reads.{Reads, ◌>>=◌, number, only, bad}
 use Rattle.machine.specs.Store.{Setup, slots_in}
 use Rattle.machine.specs.Channel.{filter_in, periodic_in, body_in, version_in, store_in}

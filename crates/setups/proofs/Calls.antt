@@ -1,4 +1,5 @@
 -- Saving, then loading; loading, then saving. Assumes nothing.
+use Rattle.std.specs.Prelude.{if◌then◌else◌}
 use Prim.Native.Nat.{ℕ}
 use mathlib.Core.Path.{◌≡◌, refl, sym, ap, ◌∙◌, subst}
 use mathlib.Core.Bool.{Bool, true, false, true≢false, not}
@@ -10,7 +11,6 @@ use borrow.Author.Tests.{eq-eqb, eqb-true}
 use lib.Dec.{eqb, ltb}
 use lib.ListN.{length, take, drop}
 use lib.Seq.{take-append_seam}
-use Rattle.codec.specs.Plain.{if◌then◌else◌}
 use Rattle.number.specs.Laws.{Bytes}
 use Rattle.machine.specs.Codes.{code_of}
 use Rattle.machine.specs.Message.{Rec}

@@ -1,4 +1,5 @@
 -- A store that reads, taken apart for code that walks it: where each part stands and what is read there; the entries of ten places. Assumes nothing.
+use Rattle.std.specs.Prelude.{if◌then◌else◌}
 use Prim.Native.Nat.{ℕ, zero, suc, ◌≤◌, ◌<◌}
 use mathlib.Core.Path.{◌≡◌, refl, sym, ap, ◌∙◌, subst}
 use mathlib.Core.Bool.{Bool, true, false}
@@ -8,7 +9,7 @@ use mathlib.Core.Option.{none, some}
 use borrow.Author.Tests.{eqb-true}
 use lib.Dec.{T, eqb, leb, leb→le}
 use lib.ListN.{length}
-use Rattle.codec.specs.Plain.{if◌then◌else◌, within, member}
+use Rattle.codec.specs.Plain.{within, member}
 use Rattle.codec.proofs.Tests.{within_low, within_high}
 use Rattle.number.specs.Reads.{Reads, ◌>>=◌, bad, number, only}
 use Rattle.machine.specs.Filter.{Slots, none_yet}

@@ -1,4 +1,5 @@
 -- A store is at most 1,149 bytes long. Assumes nothing.
+use Rattle.std.specs.Prelude.{if◌then◌else◌}
 use Prim.Native.Nat.{ℕ, suc, ◌+◌, ◌-◌, ◌*◌, ◌/◌, ◌≤◌, ◌<◌}
 use mathlib.Core.Path.{◌≡◌, refl, ap, ◌∙◌}
 use mathlib.Core.Bool.{Bool, true, false, not}
@@ -10,7 +11,6 @@ use native.Mathlib.Omega.{arith}
 use borrow.Author.Tests.{le-ltb}
 use lib.Dec.{T}
 use lib.ListN.{length, take, length-append}
-use Rattle.codec.specs.Plain.{if◌then◌else◌}
 use Rattle.number.specs.Number.{groups, bytes_of}
 use Rattle.number.proofs.Laws.{groups_one, groups_more, written_short}
 use Rattle.number.proofs.Groups.{below}

@@ -1,4 +1,5 @@
 -- Reading part by part: what was written is read wherever it stands, and what was read stands there. Assumes nothing.
+use Rattle.std.specs.Prelude.{if◌then◌else◌}
 use Prim.Native.Nat.{ℕ, ◌+◌, ◌-◌, ◌≤◌, ◌<◌}
 use mathlib.Core.Path.{◌≡◌, refl, sym, ap, ◌∙◌, subst}
 use mathlib.Core.Bool.{Bool, true, false}
@@ -15,7 +16,6 @@ use Rattle.number.specs.Number.{largest, Found, number_in, bytes_of}
 use Rattle.number.specs.Laws.{Bytes}
 use Rattle.number.specs.Reads.{Reads, ◌>>=◌, done, bad, number, bytes, where_true, only}
 use Rattle.machine.specs.Store.{nothing_after, read_whole}
-use Rattle.codec.specs.Plain.{if◌then◌else◌}
 use Rattle.number.proofs.Laws.{reads_back, writes_back, read_bounded}
 
 pub same : {A : Type 0} {x y : A} → some x ≡ some y → x ≡ y

@@ -1,4 +1,5 @@
 -- Places, the body and the whole of a store, there and back. Assumes nothing.
+use Rattle.std.specs.Prelude.{if◌then◌else◌}
 use Prim.Native.Nat.{ℕ, zero, suc, ◌+◌, ◌-◌, ◌≤◌, ◌<◌}
 use mathlib.Core.Path.{◌≡◌, refl, sym, ap, ◌∙◌, subst}
 use mathlib.Core.Bool.{Bool, true, false}
@@ -9,7 +10,7 @@ use native.Mathlib.Omega.{arith}
 use borrow.Author.Tests.{eqb-true, ne_eqb}
 use lib.Dec.{T, eqb, leb, leb→le, le→leb}
 use lib.ListN.{length, drop, drop_of_length-le}
-use Rattle.codec.specs.Plain.{if◌then◌else◌, within, member}
+use Rattle.codec.specs.Plain.{within, member}
 use Rattle.codec.proofs.Tests.{within_low, within_high, between, true_T}
 use Rattle.number.specs.Number.{largest, number_in, front, joined, highest, shortest, bytes_of, groups}
 use Rattle.number.specs.Number as numbers

@@ -1,12 +1,13 @@
 -- Worked stores: the examples of request P13, and of two stores every cut, every byte one higher, every top bit turned, every byte left out and every
 -- byte 0 put in between, with those that still read as a model apart from the definitions says. Assumes nothing.
+use Rattle.std.specs.Prelude.{if◌then◌else◌}
 use mathlib.Core.Path.{◌≡◌, refl}
 use Prim.Native.Nat.{ℕ, zero, suc, ◌+◌, ◌%◌}
 use mathlib.Core.Bool.{Bool, true, false}
 use mathlib.Core.List.{List, [], ◌∷◌, ◌++◌}
 use mathlib.Core.Option.{Option, none, some, bind}
 use lib.ListN.{length, get_or, set, take, drop}
-use Rattle.codec.specs.Plain.{if◌then◌else◌, within, member}
+use Rattle.codec.specs.Plain.{within, member}
 use Rattle.codec.specs.Word.{word, word_at}
 use Rattle.number.specs.Number as numbers
 use Rattle.number.specs.Number.{groups, bytes_of}

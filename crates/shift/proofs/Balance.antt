@@ -1,4 +1,5 @@
 -- P10: the numbers balance, for any rates, box and events. Assumes nothing.
+use Rattle.std.specs.Prelude.{if◌then◌else◌}
 use Prim.Native.Nat.{ℕ, zero, suc, ◌+◌, ◌-◌, ◌≤◌, ◌<◌, min}
 use mathlib.Core.Path.{◌≡◌, refl, sym, ap, ◌∙◌, subst}
 use mathlib.Core.Bool.{Bool, true, false, not, ◌&&◌}
@@ -8,7 +9,7 @@ use native.Mathlib.Omega.{arith}
 use borrow.Author.Tests.{eqb-true, eq-eqb, ltb-true, ltb-false, le-ltb, lt-ltb, le-leb, lt-leb}
 use lib.ListN.{length, get_or, replicate, length-append, length-drop}
 use lib.Dec.{eqb, leb, ltb}
-use Rattle.codec.specs.Plain.{if◌then◌else◌, member}
+use Rattle.codec.specs.Plain.{member}
 use Rattle.machine.specs.Limits.{most_to_read, most_advance}
 use Rattle.machine.specs.Codes.{code_of}
 use Rattle.machine.specs.Message.{Rec, id_bytes, takes, received, width_flag}

@@ -1,7 +1,6 @@
 -- P10: the eleven numbers of a raw CAN channel, each by its own definition from the channel before an event, the event and its answer; and their sums
 -- over a run. Channels go by their line: channel number c is that of line c - 1. Assumes nothing.
-use Rattle.std.specs.Prelude.{ℕ, ◌+◌, Bool, true, false, not, ◌&&◌, List, [], ◌∷◌, ◌++◌, length, eqb, leb}
-use Rattle.codec.specs.Plain.{if◌then◌else◌}
+use Rattle.std.specs.Prelude.{ℕ, ◌+◌, Bool, true, false, not, ◌&&◌, List, [], ◌∷◌, ◌++◌, length, eqb, leb, if◌then◌else◌}
 use Rattle.machine.specs.Limits.{most_to_read}
 use Rattle.machine.specs.Message.{id_bytes, takes}
 use Rattle.machine.specs.Filter.{hits}

@@ -1,5 +1,6 @@
 -- DEMAND 3, WHOLE SHIFTS IN BYTES (02, P14): on whatever bytes are lent as the memory, and from power-on, with any set of rates out of the three.
 -- Assumes nothing.
+use Rattle.std.specs.Prelude.{if◌then◌else◌}
 use Prim.Native.Nat.{ℕ}
 use mathlib.Core.Path.{◌≡◌, refl, sym, ap, ◌∙◌, subst}
 use mathlib.Core.Bool.{Bool, true, false}
@@ -7,7 +8,6 @@ use mathlib.Core.Option.{Option, none, some}
 use mathlib.Core.List.{List, [], ◌∷◌}
 use borrow.Author.Tests.{eq-eqb}
 use lib.Dec.{T, eqb}
-use Rattle.codec.specs.Plain.{if◌then◌else◌}
 use Rattle.codec.proofs.Tests.{true_T}
 use Rattle.machine.specs.Channel.{Answer, says}
 use Rattle.machine.specs.Step.{Event, lent_by}

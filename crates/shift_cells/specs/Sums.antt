@@ -1,6 +1,6 @@
 -- The sums of the shift report side by side, and what is added to one of them. Assumes nothing.
-use Rattle.std.specs.Prelude.{ℕ, ◌+◌, ◌≤◌, ◌≡◌, List, [], ◌∷◌, eqb, length, get_or, set}
-use Rattle.codec.specs.Plain.{if◌then◌else◌, zeros}
+use Rattle.std.specs.Prelude.{ℕ, ◌+◌, ◌≤◌, ◌≡◌, List, [], ◌∷◌, eqb, length, get_or, set, if◌then◌else◌}
+use Rattle.codec.specs.Plain.{zeros}
 use Rattle.recording_sizes.specs.Sizes.{longest}
 use Rattle.shift_places.specs.Places.{of_channel, of_report}
 use Rattle.shift.specs.Report.{of_four}

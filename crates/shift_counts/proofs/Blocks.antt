@@ -1,4 +1,5 @@
 -- What each event adds, by the channel before it: on one channel, then on the box. Assumes nothing.
+use Rattle.std.specs.Prelude.{if◌then◌else◌}
 use Prim.Native.Nat.{ℕ, ◌+◌, ◌*◌, ◌≤◌, ◌<◌, min}
 use mathlib.Core.Path.{◌≡◌, refl, sym, ap, ◌∙◌, subst}
 use mathlib.Core.Bool.{Bool, true, false, not, ◌&&◌}
@@ -9,7 +10,7 @@ use native.Mathlib.Omega.{arith}
 use borrow.Author.Tests.{eqb-true, eq-eqb, ne_eqb, le-ltb, lt-leb}
 use lib.Dec.{eqb, leb, ltb}
 use lib.ListN.{length, length-replicate}
-use Rattle.codec.specs.Plain.{if◌then◌else◌, within, zeros}
+use Rattle.codec.specs.Plain.{within, zeros}
 use Rattle.machine.specs.Limits.{most_to_read, record_size}
 use Rattle.machine.specs.Codes.{code_of}
 use Rattle.machine.specs.Message.{Rec, id_bytes}

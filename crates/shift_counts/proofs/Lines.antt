@@ -1,4 +1,5 @@
 -- The numbers of one line's channel among all, and its region in the memory. Assumes nothing.
+use Rattle.std.specs.Prelude.{if◌then◌else◌}
 use Prim.Native.Nat.{ℕ, ◌+◌, ◌-◌, ◌≤◌, ◌<◌, min}
 use mathlib.Core.Path.{◌≡◌, refl, sym, ap, ap₂, ◌∙◌, subst}
 use mathlib.Core.Bool.{Bool, true, false, ◌&&◌}
@@ -8,7 +9,7 @@ use borrow.Author.Tests.{eqb-true, eqb-false, eq-eqb, ne_eqb, lt-ltb, le-ltb, lt
 use lib.Dec.{T, eqb, leb, ltb}
 use lib.ListN.{length, get_or, take, drop}
 use lib.Seq.{get_or-take, get_or-drop}
-use Rattle.codec.specs.Plain.{if◌then◌else◌, zeros}
+use Rattle.codec.specs.Plain.{zeros}
 use Rattle.machine.specs.Limits.{lines, most_to_read, most_bytes}
 use Rattle.machine.specs.Codes.{code_of}
 use Rattle.machine.specs.Message.{id_bytes, id_limit}

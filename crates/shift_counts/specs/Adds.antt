@@ -1,6 +1,5 @@
 -- What one event adds to the 44 numbers, and what it adds to those of one channel, as code finds it out before the event. Assumes nothing.
-use Rattle.std.specs.Prelude.{ℕ, ◌+◌, Bool, ◌&&◌, List, [], ◌∷◌, ◌++◌, map, eqb, leb, length}
-use Rattle.codec.specs.Plain.{if◌then◌else◌}
+use Rattle.std.specs.Prelude.{ℕ, ◌+◌, Bool, ◌&&◌, List, [], ◌∷◌, ◌++◌, map, eqb, leb, length, if◌then◌else◌}
 use Rattle.machine.specs.Limits.{most_to_read}
 use Rattle.machine.specs.Channel.{Chan, closed, opened, Answer}
 use Rattle.machine.specs.Step.{Event}

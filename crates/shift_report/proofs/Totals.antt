@@ -1,4 +1,5 @@
 -- The numbers of a run: what one event adds and what is still to come, what is left at the end, and that none is large. Assumes nothing.
+use Rattle.std.specs.Prelude.{if◌then◌else◌}
 use Prim.Native.Nat.{ℕ, zero, suc, ◌+◌, ◌≤◌, ◌<◌}
 use mathlib.Core.Path.{◌≡◌, refl, ap, ◌∙◌}
 use mathlib.Core.Bool.{Bool, true, false}
@@ -9,7 +10,6 @@ use native.Mathlib.Omega.{arith}
 use borrow.Author.Tests.{ltb-false}
 use lib.Dec.{leb, ltb}
 use lib.ListN.{length}
-use Rattle.codec.specs.Plain.{if◌then◌else◌}
 use Rattle.codec.proofs.Lists.{Each}
 use Rattle.machine.specs.Step.{Event}
 use Rattle.whole.specs.Device.{Device, chan_at, step, run}

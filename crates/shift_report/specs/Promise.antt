@@ -1,6 +1,5 @@
 -- THE PROMISE of the shift report on a lent memory and 44 lent numbers. Assumes nothing.
-use Rattle.std.specs.Prelude.{ℕ, ◌&&◌, List, eqb, length}
-use Rattle.codec.specs.Plain.{if◌then◌else◌}
+use Rattle.std.specs.Prelude.{ℕ, ◌&&◌, List, eqb, length, if◌then◌else◌}
 use Rattle.whole.specs.Device.{Device, power_on, run}
 use Rattle.memory.specs.Sizes.{box_size}
 use Rattle.memory.specs.Memory.{image}

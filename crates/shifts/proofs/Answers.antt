@@ -1,12 +1,12 @@
 -- TWO ARRANGEMENTS of the same events, each channel's in its own order, end in the same device and give each event the same answer. What a channel does
 -- with an event is nowhere looked into. Assumes nothing.
+use Rattle.std.specs.Prelude.{if◌then◌else◌}
 use Prim.Native.Nat.{ℕ, ◌<◌}
 use mathlib.Core.Path.{◌≡◌, refl, sym, ap, ◌∙◌, subst}
 use mathlib.Core.Bool.{Bool, true, false, true≢false}
 use mathlib.Core.Option.{none, some}
 use mathlib.Core.List.{List, [], ◌∷◌, cons≢nil, head-eq_of_cons-eq}
 use lib.Dec.{eqb}
-use Rattle.codec.specs.Plain.{if◌then◌else◌}
 use Rattle.machine.specs.Step.{Event}
 use Rattle.whole.specs.Device.{Device, channels, power_on, step, run, answers}
 use Rattle.whole.specs.Demands.{EightChannels, concerns, strike, answers_of, Alike, SameToEach}

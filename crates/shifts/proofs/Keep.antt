@@ -1,4 +1,5 @@
 -- Keeping those that pass a test: of a sequence and its parts, twice, by two tests. Assumes nothing.
+use Rattle.std.specs.Prelude.{if◌then◌else◌}
 use Prim.Native.Nat.{ℕ, zero, suc, ◌<◌}
 use mathlib.Core.Path.{◌≡◌, refl, sym, ap, ◌∙◌, subst}
 use mathlib.Core.Logic.{◌≢◌}
@@ -7,7 +8,7 @@ use mathlib.Core.List.{List, [], ◌∷◌, ◌++◌}
 use native.Mathlib.Omega.{arith}
 use borrow.Author.Tests.{eqb-true, eqb-false}
 use lib.Dec.{T, eqb}
-use Rattle.codec.specs.Plain.{if◌then◌else◌, all, all_below}
+use Rattle.codec.specs.Plain.{all, all_below}
 use Rattle.codec.proofs.Tests.{left, right, true_T}
 use Rattle.machine.specs.Step.{Event}
 use Rattle.whole.specs.Device.{channels}

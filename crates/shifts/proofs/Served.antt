@@ -1,4 +1,5 @@
 -- SERVING CHANNEL AFTER CHANNEL is an arrangement of a stretch, and of a whole sequence stretch by stretch. Assumes nothing.
+use Rattle.std.specs.Prelude.{if◌then◌else◌}
 use Prim.Native.Nat.{ℕ, zero, suc, ◌+◌, ◌≤◌, ◌<◌}
 use mathlib.Core.Path.{◌≡◌, refl, sym, ap, ap₂, ◌∙◌, subst}
 use mathlib.Core.Logic.{◌≢◌}
@@ -8,7 +9,7 @@ use native.Mathlib.Omega.{arith}
 use borrow.Author.Tests.{eqb-true, eqb-false, ne_eqb}
 use lib.Dec.{T, eqb, ltb, eqb→eq}
 use lib.ListN.{length, length-append}
-use Rattle.codec.specs.Plain.{if◌then◌else◌, all}
+use Rattle.codec.specs.Plain.{all}
 use Rattle.codec.proofs.Tests.{left, right, join, true_T, T_true, T_false}
 use Rattle.codec.proofs.Lists.{all_append}
 use Rattle.machine.specs.Step.{Event, connect, call, frame, advance, close}

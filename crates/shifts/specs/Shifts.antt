@@ -1,9 +1,9 @@
 -- WHOLE SHIFTS (02, P14): a sequence cut at its bus frames, advances and closes, and the arrangements of each stretch that keep each channel's own
 -- order. Every event carries the number that it has in the sequence as it was made, and is known by it wherever it comes to stand. Channels go by
 -- their place: place i is channel number i + 1. Assumes nothing.
-use Rattle.std.specs.Prelude.{ℕ, zero, suc, ◌<◌, ◌≡◌, Bool, true, false, not, List, [], ◌∷◌, ◌++◌, T, eqb}
+use Rattle.std.specs.Prelude.{ℕ, zero, suc, ◌<◌, ◌≡◌, Bool, true, false, not, List, [], ◌∷◌, ◌++◌, T, eqb, if◌then◌else◌}
 use Rattle.std.proofs.Math.Option.{Option, none, some}
-use Rattle.codec.specs.Plain.{if◌then◌else◌, all, all_below}
+use Rattle.codec.specs.Plain.{all, all_below}
 use Rattle.machine.specs.Channel.{Answer}
 use Rattle.machine.specs.Step.{Event, connect, call, frame, advance, close}
 use Rattle.whole.specs.Device.{Device, channels, run, answers}

@@ -1,4 +1,5 @@
 -- The decimals of a start. Assumes nothing.
+use Rattle.std.specs.Prelude.{if◌then◌else◌}
 use Prim.Native.Nat.{ℕ, zero, suc, ◌+◌, ◌-◌, ◌*◌, ◌^◌, ◌≤◌, ◌<◌}
 use mathlib.Core.Path.{◌≡◌, refl, sym, ◌∙◌}
 use mathlib.Core.Bool.{Bool, true, false, ◌&&◌}
@@ -9,7 +10,6 @@ use native.Mathlib.Omega.{arith}
 use borrow.Author.Tests.{eq-eqb, ne_eqb, eqb-false}
 use lib.Dec.{eqb, leb, leb→le}
 use lib.ListN.{length}
-use Rattle.codec.specs.Plain.{if◌then◌else◌}
 use Rattle.codec.proofs.Tests.{left, right, true_T}
 use Rattle.text.specs.Text.{value_of}
 use Rattle.text_reader.specs.Reading.{valued, near_value}

@@ -1,7 +1,6 @@
 -- Request P11: the start time that a program is given, seconds with an optional point and one to six decimals. Assumes nothing.
-use Rattle.std.specs.Prelude.{ℕ, ◌+◌, ◌-◌, ◌*◌, ◌^◌, ◌&&◌, List, eqb, leb, ltb, length}
+use Rattle.std.specs.Prelude.{ℕ, ◌+◌, ◌-◌, ◌*◌, ◌^◌, ◌&&◌, List, eqb, leb, ltb, length, if◌then◌else◌}
 use Rattle.std.proofs.Math.Option.{Option, none, some, map, bind}
-use Rattle.codec.specs.Plain.{if◌then◌else◌}
 use Rattle.text.specs.Text.{value_of, number_of}
 use Rattle.candump.specs.Line.{second, point, cut}
 use Rattle.candump.specs.Log.{latest}

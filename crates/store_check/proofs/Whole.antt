@@ -1,4 +1,5 @@
 -- A whole store, part by part. Assumes nothing.
+use Rattle.std.specs.Prelude.{if◌then◌else◌}
 use Prim.Native.Nat.{ℕ}
 use mathlib.Core.Path.{◌≡◌, refl, sym, ap, ◌∙◌, subst}
 use mathlib.Core.Bool.{Bool, true, false, true≢false, ◌&&◌}
@@ -7,7 +8,7 @@ use mathlib.Core.Option.{Option, none, some, bind}
 use borrow.Author.Tests.{eq-eqb, ne_eqb, eqb-true}
 use lib.Dec.{eqb, leb, leb→le, eqb→eq}
 use lib.ListN.{length}
-use Rattle.codec.specs.Plain.{if◌then◌else◌, member, within}
+use Rattle.codec.specs.Plain.{member, within}
 use Rattle.codec.proofs.Tests.{and_true, and_false, T_true}
 use Rattle.number.specs.Reads.{◌>>=◌, done, bad, number, where_true, only}
 use Rattle.machine.specs.Message.{Rec}

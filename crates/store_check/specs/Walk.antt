@@ -1,7 +1,7 @@
 -- The parts of a store that are walked one after the other, and where each of a store that reads stands. Assumes nothing.
-use Rattle.std.specs.Prelude.{ℕ, ◌≤◌, ◌≡◌, List, T, eqb, leb, length}
+use Rattle.std.specs.Prelude.{ℕ, ◌≤◌, ◌≡◌, List, T, eqb, leb, length, if◌then◌else◌}
 use Rattle.std.proofs.Math.Option.{Option, none, some}
-use Rattle.codec.specs.Plain.{if◌then◌else◌, member}
+use Rattle.codec.specs.Plain.{member}
 use Rattle.number.specs.declared.Number.{Number}
 use Rattle.number.specs.declared.Number.TheVariants as read
 use Rattle.number.specs.Reads.{Reads, ◌>>=◌, done, bad, number, only}

@@ -1,4 +1,5 @@
 -- What reads at a place of a store: a number, a filter, a periodic, the first of several entries. Assumes nothing.
+use Rattle.std.specs.Prelude.{if◌then◌else◌}
 use Prim.Native.Nat.{ℕ, zero, suc, ◌+◌, ◌≤◌, ◌<◌}
 use mathlib.Core.Path.{◌≡◌, refl, sym, ap, ap₂, subst, ◌∙◌}
 use mathlib.Core.Bool.{Bool, true, false, not, ◌&&◌}
@@ -8,7 +9,7 @@ use native.Mathlib.Omega.{arith}
 use borrow.Author.Tests.{leb-true}
 use lib.Dec.{leb, eqb, eqb→eq, T}
 use lib.ListN.{length, take, drop}
-use Rattle.codec.specs.Plain.{if◌then◌else◌, within}
+use Rattle.codec.specs.Plain.{within}
 use Rattle.codec.proofs.Tests.{join, within_low, within_high, left, right}
 use Rattle.number.specs.declared.Number.{Number}
 use Rattle.number.specs.declared.Number.TheVariants.{Value, Bad}

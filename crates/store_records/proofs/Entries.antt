@@ -1,4 +1,5 @@
 -- A filter and a periodic of a store, part by part. Assumes nothing.
+use Rattle.std.specs.Prelude.{if◌then◌else◌}
 use Prim.Native.Nat.{ℕ, ◌≤◌}
 use mathlib.Core.Path.{◌≡◌, refl, sym, ap, ◌∙◌}
 use mathlib.Core.Bool.{Bool, true, false, ◌&&◌, not}
@@ -7,7 +8,7 @@ use mathlib.Core.Option.{none, some, bind}
 use borrow.Author.Tests.{le-ltb, eq-eqb, ne_eqb}
 use lib.Dec.{eqb}
 use lib.ListN.{length}
-use Rattle.codec.specs.Plain.{if◌then◌else◌, within}
+use Rattle.codec.specs.Plain.{within}
 use Rattle.codec.proofs.Tests.{and_false}
 use Rattle.number.specs.Reads.{◌>>=◌, done, bad, number, where_true}
 use Rattle.machine.specs.Codes.{code_of}

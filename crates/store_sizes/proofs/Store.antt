@@ -1,11 +1,11 @@
 -- The store of the channel of a region, part by part, and its length. Assumes nothing.
+use Rattle.std.specs.Prelude.{if◌then◌else◌}
 use Prim.Native.Nat.{ℕ, ◌+◌, ◌*◌, ◌≤◌}
 use native.Mathlib.Omega.{arith}
 use mathlib.Core.Path.{◌≡◌, refl, sym, ap, ◌∙◌}
 use mathlib.Core.Bool.{Bool, true, false}
 use mathlib.Core.List.{List, ◌++◌, map}
 use lib.ListN.{length, get_or, take, drop, length-append}
-use Rattle.codec.specs.Plain.{if◌then◌else◌}
 use Rattle.codec.specs.Code.{mark_of}
 use Rattle.codec.specs.Word.{word_at}
 use Rattle.number.specs.Number.{bytes_of}

@@ -1,4 +1,5 @@
 -- The store of ten places, one place after the other: of a place and the places behind it. Assumes nothing.
+use Rattle.std.specs.Prelude.{if◌then◌else◌}
 use Prim.Native.Nat.{ℕ, suc, ◌+◌, ◌*◌, ◌≤◌, ◌<◌}
 use native.Mathlib.Numerals.{add-one}
 use native.Mathlib.Omega.{arith}
@@ -9,7 +10,6 @@ use mathlib.Core.Option.{Option, none, some}
 use mathlib.Core.List.{List, [], ◌∷◌, ◌++◌, append_assoc}
 use lib.ListN.{length, get_or, drop, length-append, drop_of_length-le}
 use lib.Seq.{drop-cons}
-use Rattle.codec.specs.Plain.{if◌then◌else◌}
 use Rattle.number.specs.Number.{bytes_of}
 use Rattle.machine.specs.Limits.{most_places}
 use Rattle.machine.specs.Filter.{Slots, taken}

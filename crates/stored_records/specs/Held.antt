@@ -1,6 +1,5 @@
 -- A record held for sending or for reading, as the functions that decide validity look at it. Assumes nothing.
-use Rattle.std.specs.Prelude.{ℕ, Bool, List, drop}
-use Rattle.codec.specs.Plain.{if◌then◌else◌}
+use Rattle.std.specs.Prelude.{ℕ, Bool, List, drop, if◌then◌else◌}
 use Rattle.codec.specs.Word.{word_at}
 use Rattle.codec.specs.Code.{Code}
 use Rattle.machine.specs.Limits.{rx_status_in, tx_flags_in, timestamp_in, data_in}

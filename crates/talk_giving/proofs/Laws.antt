@@ -1,4 +1,5 @@
 -- What a conversation gives, by the head of its transfer, and what its place then holds. Assumes nothing.
+use Rattle.std.specs.Prelude.{if◌then◌else◌}
 use mathlib.Core.Path.{◌≡◌, refl, sym, ap, ◌∙◌, subst}
 use Prim.Native.Nat.{ℕ, ◌+◌, ◌-◌, ◌≤◌, ◌<◌}
 use native.Mathlib.Omega.{arith}
@@ -9,7 +10,6 @@ use lib.ListN.{length, get_or, take, drop}
 use lib.Dec.{T, eqb, eqb→eq, ltb→lt}
 use borrow.Author.Tests.{eq-eqb, ne_eqb}
 use Rattle.codec.proofs.Tests.{left, right, true_T}
-use Rattle.codec.specs.Plain.{if◌then◌else◌}
 use Rattle.codec.specs.Code.{slot}
 use Rattle.iso.specs.Limits.{most_payload}
 use Rattle.iso.specs.Iso.{Stage, opens, awaits, flies, sends, Transmission, Transfer, idle, refuses, receives, transmits, Talk, Owner, nobody, transfer_at, Given, gives, turned, flow_frame, next_frame, answer_of, next_of, segment_of}

@@ -1,7 +1,6 @@
 -- What a conversation's place gives to be sent, and what it holds afterwards; the heads of transfers whose frame was taken. Assumes nothing.
-use Rattle.std.specs.Prelude.{◌≡◌, ℕ, ◌+◌, Bool, false, ◌&&◌, ◌||◌, List, [], take, T, eqb}
+use Rattle.std.specs.Prelude.{◌≡◌, ℕ, ◌+◌, Bool, false, ◌&&◌, ◌||◌, List, [], take, T, eqb, if◌then◌else◌}
 use Rattle.std.proofs.Math.Option.{Option, none, some}
-use Rattle.codec.specs.Plain.{if◌then◌else◌}
 use Rattle.codec.specs.Code.{slot}
 use Rattle.iso.specs.Limits.{in_next}
 use Rattle.iso.specs.Iso.{Talk, Given, turned}

@@ -1,4 +1,5 @@
 -- The bytes that are stored in a conversation's place: a head, a payload, bytes behind a payload. Assumes nothing.
+use Rattle.std.specs.Prelude.{if◌then◌else◌}
 use mathlib.Core.Path.{◌≡◌, refl, sym, ap, ap₂, ◌∙◌, subst}
 use Prim.Native.Nat.{ℕ, zero, suc, ◌+◌, ◌-◌, ◌^◌, ◌≤◌, ◌<◌}
 use native.Mathlib.Nat.{suc_inj, suc-ne-zero}
@@ -10,7 +11,7 @@ use lib.Seq.{take_at, drop_at, drop-drop, length-take-le}
 use lib.Dec.{T, eqb, ltb}
 use borrow.Author.Tests.{ne_eqb}
 use borrow.Rule.Slice.PartMut.{put_mid, mid_of, same_len_mid}
-use Rattle.codec.specs.Plain.{if◌then◌else◌, zeros}
+use Rattle.codec.specs.Plain.{zeros}
 use Rattle.codec.specs.Word.{word, word_at}
 use Rattle.codec.specs.Code.{word32, both, via, such, many, mark_of}
 use Rattle.codec.proofs.Word.{word_back, word_drop}

@@ -1,5 +1,6 @@
 -- A conversation's place that is taken: its head and its payload are those of its transfer, and with others it holds the conversation with another
 -- transfer. A free place stays. Assumes nothing.
+use Rattle.std.specs.Prelude.{if◌then◌else◌}
 use mathlib.Core.Path.{◌≡◌, refl, sym, ap, ap₂, ◌∙◌, subst}
 use Prim.Native.Nat.{ℕ, zero, suc, ◌+◌}
 use native.Mathlib.Omega.{arith}
@@ -9,7 +10,6 @@ use mathlib.Core.List.{List, [], ◌∷◌, ◌++◌, append_assoc}
 use lib.ListN.{length, get_or, take, drop, length-append, length-drop}
 use lib.Seq.{take_at, drop_at, drop-drop, get_or-take, get_or-drop}
 use lib.Dec.{T, eqb, ltb}
-use Rattle.codec.specs.Plain.{if◌then◌else◌}
 use Rattle.codec.specs.Word.{word, word_at}
 use Rattle.codec.specs.Code.{byte, word32, both, via, such, mark, mark_of, slot, get_slot, valid_slot}
 use Rattle.codec.proofs.Tests.{left, right}

@@ -1,4 +1,5 @@
 -- What each frame means, as code finds it out. Assumes nothing.
+use Rattle.std.specs.Prelude.{if◌then◌else◌}
 use mathlib.Core.Path.{◌≡◌, refl, sym, ap, ap₂, ◌∙◌}
 use Prim.Native.Nat.{ℕ, ◌+◌, ◌*◌, ◌-◌, ◌/◌, ◌%◌, ◌≤◌, ◌<◌, min}
 use native.Mathlib.Omega.{arith}
@@ -7,7 +8,7 @@ use mathlib.Core.List.{List, [], ◌∷◌}
 use lib.ListN.{length, get_or, take, drop}
 use lib.Dec.{ltb}
 use borrow.Author.Tests.{lt-ltb, le-ltb, le-leb, lt-leb, eq-eqb, ne_eqb}
-use Rattle.codec.specs.Plain.{if◌then◌else◌, within}
+use Rattle.codec.specs.Plain.{within}
 use Rattle.codec.proofs.Tests.{below, above, between, and_false}
 use Rattle.iso.specs.Limits.{most_payload, in_single, least_segmented, in_next, longest_gap}
 use Rattle.iso.specs.Iso.{Transfer, Talk, Heard, Reception, idle, transmits, awaits, sends, becomes, arrived, ended, low, transmitting, gap_of, number_after, on_single, on_first, on_next, on_consecutive, staged, on_flow, on_flow_of, listening}

@@ -1,6 +1,5 @@
 -- A head once the frame of its transfer was sent; the message that a conversation's place holds whole. Assumes nothing.
-use Rattle.std.specs.Prelude.{ℕ, ◌-◌, Bool, false, List, [], ◌∷◌, get_or, eqb, leb}
-use Rattle.codec.specs.Plain.{if◌then◌else◌}
+use Rattle.std.specs.Prelude.{ℕ, ◌-◌, Bool, false, List, [], ◌∷◌, get_or, eqb, leb, if◌then◌else◌}
 use Rattle.codec.specs.Word.{word_at}
 use Rattle.machine.specs.Message.{Rec}
 use Rattle.iso.specs.Iso.{framed}

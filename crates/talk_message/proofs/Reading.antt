@@ -1,4 +1,5 @@
 -- A message out of a conversation's place and its payload in a buffer. Assumes nothing.
+use Rattle.std.specs.Prelude.{if◌then◌else◌}
 use mathlib.Core.Path.{◌≡◌, refl, sym, ap, ◌∙◌, subst}
 use Prim.Native.Nat.{ℕ, ◌+◌, ◌-◌}
 use native.Mathlib.Omega.{arith}
@@ -7,7 +8,6 @@ use mathlib.Core.List.{List, [], ◌∷◌, ◌++◌}
 use lib.ListN.{length, get_or, take, drop}
 use lib.Seq.{take_at}
 use lib.Dec.{T, eqb}
-use Rattle.codec.specs.Plain.{if◌then◌else◌}
 use Rattle.codec.specs.Word.{word_at}
 use Rattle.machine.specs.Message.{Rec, width_flag}
 use Rattle.iso.specs.Iso.{framed}

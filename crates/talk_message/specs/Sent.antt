@@ -1,6 +1,5 @@
 -- A message that was sent, as code meets it: its payload is the first so many bytes of a buffer. Assumes nothing.
-use Rattle.std.specs.Prelude.{ℕ, List, [], ◌∷◌, take}
-use Rattle.codec.specs.Plain.{if◌then◌else◌}
+use Rattle.std.specs.Prelude.{ℕ, List, [], ◌∷◌, take, if◌then◌else◌}
 use Rattle.machine.specs.Message.{Rec}
 use Rattle.iso_done.specs.Done.{message_of}
 use Rattle.talk_message.specs.declared.Sent.{Sent}

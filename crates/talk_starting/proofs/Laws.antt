@@ -1,4 +1,5 @@
 -- A message that starts on a conversation, by what stands in its place. Assumes nothing.
+use Rattle.std.specs.Prelude.{if◌then◌else◌}
 use mathlib.Core.Path.{◌≡◌, refl, sym, ap, ap₂, ◌∙◌, subst}
 use Prim.Native.Nat.{ℕ, zero, suc}
 use native.Mathlib.Omega.{arith}
@@ -8,7 +9,6 @@ use mathlib.Core.List.{List}
 use lib.ListN.{length, get_or, take, drop}
 use lib.Seq.{drop-drop, get_or-take, get_or-drop}
 use lib.Dec.{T, eqb}
-use Rattle.codec.specs.Plain.{if◌then◌else◌}
 use Rattle.codec.specs.Word.{word_at}
 use Rattle.codec.specs.Code.{byte, word32, both, via, such, mark, slot, get_slot}
 use Rattle.codec.proofs.Word.{word_part}

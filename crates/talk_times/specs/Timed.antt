@@ -1,6 +1,5 @@
 -- A head with another time, and that of a transfer that waits for a frame. Assumes nothing.
-use Rattle.std.specs.Prelude.{ℕ, ◌+◌, false, leb}
-use Rattle.codec.specs.Plain.{if◌then◌else◌}
+use Rattle.std.specs.Prelude.{ℕ, ◌+◌, false, leb, if◌then◌else◌}
 use Rattle.iso.specs.Limits.{second}
 use Rattle.talk_head.specs.declared.Head.{Head}
 

@@ -1,4 +1,5 @@
 -- Starting a flow-control filter on the region of an open ISO 15765 channel: its code. Assumes nothing.
+use Rattle.std.specs.Prelude.{if◌then◌else◌}
 use mathlib.Core.Path.{◌≡◌, refl, sym, ap, ap₂, ◌∙◌, subst}
 use Prim.Native.Nat.{ℕ, zero, suc, ◌+◌, ◌*◌, ◌≤◌, ◌<◌, ◌^◌, ◌/◌, ◌%◌}
 use native.Mathlib.Omega.{arith}
@@ -8,7 +9,6 @@ use mathlib.Core.List.{List, [], ◌∷◌, ◌++◌}
 use lib.ListN.{length, get_or, take, drop}
 use lib.Seq.{take-take}
 use lib.Dec.{T, eqb, leb, ltb, eqb→eq, nltb→le}
-use Rattle.codec.specs.Plain.{if◌then◌else◌}
 use Rattle.codec.specs.Word.{word, word_at}
 use Rattle.codec.specs.Code.{byte, word32, both, via, such, mark, slot}
 use Rattle.codec.proofs.Tests.{left, right, true_T}

@@ -1,7 +1,6 @@
 -- What a telegram's crossing to C gives, out of bytes into a record and out of a record into bytes. Assumes nothing.
-use Rattle.std.specs.Prelude.{ℕ, List, length, ltb}
+use Rattle.std.specs.Prelude.{ℕ, List, length, ltb, if◌then◌else◌}
 use Rattle.std.proofs.Math.Option.{Option, none, some}
-use Rattle.telegram.specs.Bits.{if◌then◌else◌}
 use Rattle.telegram.specs.Telegram.{AnyTelegram, any_bytes}
 use Rattle.telegram_types.specs.Face.{Wrote, over, done, refusal}
 use Rattle.telegram_record.specs.Record.{record_of, telegram_in}

@@ -1,9 +1,9 @@
 -- HOW A TELEGRAM CROSSES TO C: a record of 32 bytes, numbers lowest byte first. Bytes 0 to 3 the kind, 4 to 23 five fields of four bytes
 -- each, 24 the number of bytes that it carries, 25 to 31 those bytes, zeros after them. Assumes nothing.
-use Rattle.std.specs.Prelude.{ℕ, min, ◌&&◌, ◌||◌, List, [], ◌∷◌, ◌++◌, length, get_or, take, drop, eqb, leb}
+use Rattle.std.specs.Prelude.{ℕ, min, ◌&&◌, ◌||◌, List, [], ◌∷◌, ◌++◌, length, get_or, take, drop, eqb, leb, if◌then◌else◌}
 use Rattle.std.proofs.Math.Option.{Option, none, some}
 use Rattle.codec.specs.Word.{word, word_at}
-use Rattle.telegram.specs.Bits.{if◌then◌else◌, only_if}
+use Rattle.telegram.specs.Bits.{only_if}
 use Rattle.telegram.specs.Telegram.{AnyTelegram, opening, channel, set_up, positive, negative, data_telegram, acknowledge, connection, test, break_off, disconnection, any_fits}
 use Rattle.telegram_types.specs.Face.{numbers_of, carried_by, padded}
 

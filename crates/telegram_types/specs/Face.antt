@@ -1,8 +1,8 @@
 -- What the types of this crate's face say, as telegrams, and what the reader, the writer and the naming of a telegram have to answer.
 -- Assumes nothing.
-use Rattle.std.specs.Prelude.{ℕ, ◌+◌, ◌-◌, Bool, List, [], ◌∷◌, ◌++◌, length, take, drop, replicate, ltb}
+use Rattle.std.specs.Prelude.{ℕ, ◌+◌, ◌-◌, Bool, List, [], ◌∷◌, ◌++◌, length, take, drop, replicate, ltb, if◌then◌else◌}
 use Rattle.std.proofs.Math.Option.{Option, none, some}
-use Rattle.telegram.specs.Bits.{if◌then◌else◌, bit_value}
+use Rattle.telegram.specs.Bits.{bit_value}
 use Rattle.telegram.specs.Telegram.{set_up, positive, negative, data_telegram, acknowledge, connection, test, break_off, disconnection, AnyTelegram, opening, channel, any_fits, any_bytes}
 use Rattle.telegram.specs.Telegram as T
 use Rattle.telegram_types.specs.declared.Opening.{Opening}

@@ -1,4 +1,5 @@
 -- What validity is of ten filters in columns, filter by filter, as code finds it out. Assumes nothing.
+use Rattle.std.specs.Prelude.{if◌then◌else◌}
 use mathlib.Core.Path.{◌≡◌, refl, sym, ap, ◌∙◌}
 use Prim.Native.Nat.{ℕ, ◌+◌, ◌*◌, ◌<◌}
 use native.Mathlib.Omega.{arith}
@@ -8,7 +9,7 @@ use lib.ListN.{length, get_or, take, drop}
 use lib.Seq.{drop-drop}
 use lib.Dec.{eqb, leb}
 use borrow.Author.Tests.{eq-eqb, ne_eqb, lt-leb}
-use Rattle.codec.specs.Plain.{if◌then◌else◌, within, all_zero, all_below}
+use Rattle.codec.specs.Plain.{within, all_zero, all_below}
 use Rattle.codec.specs.Code.{byte, via, such, mark, many}
 use Rattle.codec.proofs.Tests.{and_true, and_false}
 use Rattle.codec.proofs.Lawful.{byte_lawful, mark_lawful}

@@ -1,4 +1,5 @@
 -- What validity is of ten periodics in columns, periodic by periodic, as code finds it out. Assumes nothing.
+use Rattle.std.specs.Prelude.{if◌then◌else◌}
 use mathlib.Core.Path.{◌≡◌, refl, sym, ap, ◌∙◌}
 use Prim.Native.Nat.{ℕ, ◌+◌, ◌*◌, ◌≤◌}
 use native.Mathlib.Omega.{arith}
@@ -8,7 +9,7 @@ use mathlib.Core.List.{List}
 use lib.ListN.{length, get_or, drop, length-drop}
 use lib.Seq.{get_or-take, drop-drop, length-take-le}
 use lib.Dec.{eqb, leb, ltb, eqb→eq}
-use Rattle.codec.specs.Plain.{if◌then◌else◌, is_byte, within, all_zero, all_below}
+use Rattle.codec.specs.Plain.{is_byte, within, all_zero, all_below}
 use Rattle.codec.specs.Word.{word_at}
 use Rattle.codec.specs.Code.{byte, word32, both, via, such, mark, many, vacant}
 use Rattle.codec.proofs.Tests.{T_false, and_false}

@@ -1,6 +1,5 @@
 -- What the functions that decide validity say of ten filters and of ten periodics, place by place. Assumes nothing.
-use Rattle.std.specs.Prelude.{ℕ, ◌+◌, ◌*◌, Bool, ◌&&◌, List, get_or, take, drop, eqb, leb}
-use Rattle.codec.specs.Plain.{if◌then◌else◌}
+use Rattle.std.specs.Prelude.{ℕ, ◌+◌, ◌*◌, Bool, ◌&&◌, List, get_or, take, drop, eqb, leb, if◌then◌else◌}
 use Rattle.codec.specs.Word.{word_at}
 use Rattle.codec.specs.Code.{vacant}
 use Rattle.machine.specs.Limits.{record_size, most_data}

@@ -1,4 +1,5 @@
 -- Numbers written as text are read back. Assumes nothing.
+use Rattle.std.specs.Prelude.{if◌then◌else◌}
 use Prim.Native.Nat.{ℕ, zero, suc, ◌+◌, ◌-◌, ◌*◌, ◌/◌, ◌%◌, ◌^◌, ◌≤◌, ◌<◌}
 use mathlib.Core.Path.{◌≡◌, refl, sym, ap, ◌∙◌}
 use mathlib.Core.Bool.{Bool, true, false, ◌&&◌}
@@ -9,7 +10,7 @@ use native.Mathlib.Omega.{arith}
 use borrow.Author.Tests.{le-leb, lt-leb, lt-ltb, le-ltb, ltb-true, ltb-false}
 use lib.Dec.{leb, ltb, T, le→leb}
 use lib.ListN.{length, length-append}
-use Rattle.codec.specs.Plain.{if◌then◌else◌, all}
+use Rattle.codec.specs.Plain.{all}
 use Rattle.codec.proofs.Lists.{all_append}
 use Rattle.codec.proofs.Tests.{join}
 use Rattle.text.specs.Text.{digit, digit_in, below, fixed, short, decimal, value_of, number_of}

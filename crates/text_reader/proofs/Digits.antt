@@ -1,4 +1,5 @@
 -- The value of a digit and the number of some digits, as the readers find them. Assumes nothing.
+use Rattle.std.specs.Prelude.{if◌then◌else◌}
 use Prim.Native.Nat.{ℕ, zero, suc, ◌+◌, ◌-◌, ◌*◌, ◌^◌, ◌≤◌, ◌<◌}
 use mathlib.Core.Path.{◌≡◌, refl, sym, ap, ◌∙◌}
 use mathlib.Core.Bool.{Bool, true, false, ◌&&◌}
@@ -11,7 +12,6 @@ use borrow.Author.Tests.{le-leb, lt-leb, leb-true, leb-false, lt-ltb, le-ltb, lt
 use lib.Dec.{leb, ltb, leb→le}
 use lib.ListN.{length, get_or, drop, drop_of_length-le}
 use lib.Seq.{drop-cons}
-use Rattle.codec.specs.Plain.{if◌then◌else◌}
 use Rattle.codec.proofs.Tests.{left, right, true_T}
 use Rattle.text.specs.Text.{digit_in, below, value_of}
 use Rattle.text_reader.specs.Reading.{no_digit, or_none, digit_of, far, near, valued, near_value}

@@ -1,7 +1,6 @@
 -- What the readers of text answer: where a byte stands, the value of a digit, the number of digits. Assumes nothing.
-use Rattle.std.specs.Prelude.{ℕ, zero, suc, List, [], ◌∷◌, eqb, leb}
+use Rattle.std.specs.Prelude.{ℕ, zero, suc, List, [], ◌∷◌, eqb, leb, if◌then◌else◌}
 use Rattle.std.proofs.Math.Option.{Option, none, some, map}
-use Rattle.codec.specs.Plain.{if◌then◌else◌}
 use Rattle.text.specs.Text.{digit_in, value_of}
 use Rattle.text_reader.specs.declared.Value.{Value}
 use Rattle.text_reader.specs.declared.Value.TheVariants.{Number, Bad}

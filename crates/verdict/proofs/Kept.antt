@@ -1,4 +1,5 @@
 -- The heads of the filters that stay in the list beside the maps, and the ten filters that they are the heads of. Assumes nothing.
+use Rattle.std.specs.Prelude.{if◌then◌else◌}
 use mathlib.Core.Path.{◌≡◌, refl, sym, ap, ap₂, subst, ◌∙◌}
 use Prim.Native.Nat.{ℕ, zero, suc, ◌+◌, ◌*◌, ◌≤◌, ◌<◌}
 use native.Mathlib.Nat.{eq-or-lt_of_le}
@@ -11,7 +12,6 @@ use lib.Dec.{eqb, leb}
 use borrow.Author.Tests.{eqb-true, eqb-false}
 use lib.ListN.{length, get_or, set, take, drop, length-set}
 use lib.Seq.{get_or-take, ext_get_or, length-take-le, get_or-set_same, get_or-set_other}
-use Rattle.codec.specs.Plain.{if◌then◌else◌}
 use Rattle.machine.specs.Limits.{most_places, most_data, least_data}
 use Rattle.machine.specs.Filter.{Slots, Filter}
 use Rattle.map_rule.specs.Map.{in_map, kept, others}

@@ -1,6 +1,5 @@
 -- The heads of those filters that stay in the list beside the maps, as code reads them. Assumes nothing.
-use Rattle.std.specs.Prelude.{◌≡◌, ℕ, ◌≤◌, ◌<◌, Bool, List, length, get_or}
-use Rattle.codec.specs.Plain.{if◌then◌else◌}
+use Rattle.std.specs.Prelude.{◌≡◌, ℕ, ◌≤◌, ◌<◌, Bool, List, length, get_or, if◌then◌else◌}
 use Rattle.machine.specs.Limits.{most_places}
 use Rattle.layout.specs.Sizes.{masks_in}
 use Rattle.maps.specs.Chosen.{mapped_at}

@@ -1,5 +1,6 @@
 -- Laws of the step of `specs/Device.antt`, for any set of rates: which channels an event touches, who answers, what becomes of each channel and of the
 -- device. They unfold the dispatcher and never what a channel does. Assumes nothing.
+use Rattle.std.specs.Prelude.{if◌then◌else◌}
 use Prim.Native.Nat.{ℕ, zero, suc, ◌+◌, ◌-◌, ◌≤◌, ◌<◌}
 use mathlib.Core.Path.{◌≡◌, refl, sym, ap, ap₂, ◌∙◌, subst}
 use mathlib.Core.Bool.{Bool, true, false, true≢false, not, ◌&&◌, ◌||◌, and-true, and-false}
@@ -13,7 +14,7 @@ use lib.ListN.{length, get_or, set, length-set}
 use lib.Seq.{get_or-set_same, get_or-set_other, set-get_or, set_out, ext_get_or}
 use lib.Dec.{eqb, leb, ltb, T, ltb→lt, eqb-suc-suc}
 use Rattle.codec.proofs.Tests.{left, right, true_T, T_true, T_false, within_low, within_high, between}
-use Rattle.codec.specs.Plain.{if◌then◌else◌, within}
+use Rattle.codec.specs.Plain.{within}
 use Rattle.machine.specs.Channel.{Chan, closed, Call, raw_only, Answer, says, lent, Outcome, on_call, on_connect, noted, noted_in_use, on_frame, on_advance}
 use Rattle.iso.specs.Iso.{Iso, shut, on_iso_call, on_iso_connect, on_iso_frame, on_iso_advance, iso_noted, iso_noted_in_use}
 use Rattle.iso.specs.Step.{iso_step}

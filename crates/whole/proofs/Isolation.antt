@@ -1,5 +1,6 @@
 -- DEMAND 3 over the machine of `specs/`, for any set of rates. The proofs unfold the dispatcher and no more: what a channel does with an event is
 -- nowhere looked into. From power-on, with no premise on the device: FromPowerOn. Assumes nothing.
+use Rattle.std.specs.Prelude.{if◌then◌else◌}
 use Prim.Native.Nat.{ℕ, ◌+◌, ◌<◌}
 use mathlib.Core.Path.{◌≡◌, refl, sym, ap, ap₂, ◌∙◌, subst}
 use mathlib.Core.Logic.{◌≢◌, ◌⊎◌, inl, inr, ⊎_elim}
@@ -11,7 +12,6 @@ use borrow.Author.Tests.{eqb-true, eq-eqb}
 use lib.ListN.{length}
 use lib.Seq.{ext_get_or}
 use lib.Dec.{T, eqb, eqb→eq, lit<}
-use Rattle.codec.specs.Plain.{if◌then◌else◌}
 use Rattle.codec.proofs.Tests.{left}
 use Rattle.machine.specs.Channel.{Call, Answer}
 use Rattle.machine.specs.Step.{Event, connect, call, clock_after}

@@ -1,5 +1,6 @@
 -- LISTS OF PARAMETERS over the whole box, for any set of rates: one pair is the single call, a list is its single calls in a row up to the first refused
 -- one, and what a list leaves that a pair ended. Said once for both kinds of channel. Place i is channel number i + 1. Assumes nothing.
+use Rattle.std.specs.Prelude.{if◌then◌else◌}
 use mathlib.Core.Path.{◌≡◌, refl, sym, ap, ap₂, ◌∙◌, subst}
 use Prim.Native.Nat.{ℕ, ◌+◌, ◌-◌, ◌≤◌, ◌<◌}
 use native.Mathlib.Omega.{arith}
@@ -10,7 +11,7 @@ use lib.ListN.{length, length-append}
 use lib.Seq.{set-set}
 use lib.Dec.{eqb, ltb}
 use borrow.Author.Tests.{eq-eqb, ne_eqb, ltb-true, ltb-false}
-use Rattle.codec.specs.Plain.{if◌then◌else◌, within, member}
+use Rattle.codec.specs.Plain.{within, member}
 use Rattle.codec.proofs.Tests.{true_T, within_low, within_high}
 use Rattle.machine.specs.Limits.{most_pairs}
 use Rattle.machine.specs.Channel.{Open, Chan, closed, opened, Pairs, flat, Call, raw_only, get_parameter, set_parameter, get_list, set_list, Answer, says, lent, Outcome, set_to, on_set, on_open, on_call, notes, noted}

@@ -1,5 +1,6 @@
 -- DEMAND 1 over the whole box, for any set of rates: every answer's code is in the table, and a refusal leaves the device and the lent buffer as they
 -- were, but for the last code of the channel that it names. What is said of raw and of ISO 15765 channels is said once, of either. Assumes nothing.
+use Rattle.std.specs.Prelude.{if◌then◌else◌}
 use Prim.Native.Nat.{ℕ, ◌+◌, ◌-◌, ◌≤◌, ◌<◌}
 use mathlib.Core.Path.{◌≡◌, refl, sym, ap, ap₂, ◌∙◌, subst, fun_ext}
 use mathlib.Core.Bool.{Bool, true, false, ◌&&◌}
@@ -9,7 +10,7 @@ use native.Mathlib.Omega.{arith}
 use borrow.Author.Tests.{eqb-true, ltb-true}
 use lib.ListN.{length}
 use lib.Dec.{T, eqb, leb, ltb}
-use Rattle.codec.specs.Plain.{if◌then◌else◌, member, within}
+use Rattle.codec.specs.Plain.{member, within}
 use Rattle.codec.proofs.Tests.{left, true_T, within_low}
 use Rattle.machine.specs.Limits.{last_line}
 use Rattle.machine.specs.Codes.{step_codes, code_of}

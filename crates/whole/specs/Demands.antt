@@ -1,8 +1,8 @@
 -- The words of demands 1 and 3 over the whole box: what a refusal leaves, which events concern a channel, what a channel receives. Channels go by their
 -- place: place i is channel number i + 1. Assumes nothing.
-use Rattle.std.specs.Prelude.{ℕ, ◌+◌, ◌-◌, ◌<◌, ◌≡◌, Bool, true, ◌&&◌, List, [], ◌∷◌, ◌++◌, length, set, T, eqb, ltb}
+use Rattle.std.specs.Prelude.{ℕ, ◌+◌, ◌-◌, ◌<◌, ◌≡◌, Bool, true, ◌&&◌, List, [], ◌∷◌, ◌++◌, length, set, T, eqb, ltb, if◌then◌else◌}
 use Rattle.std.proofs.Math.Option.{Option, none, some}
-use Rattle.codec.specs.Plain.{if◌then◌else◌, within}
+use Rattle.codec.specs.Plain.{within}
 use Rattle.machine.specs.Limits.{lines}
 use Rattle.machine.specs.Codes.{step_codes}
 use Rattle.machine.specs.Channel.{Call, raw_only, get_parameter, set_parameter, get_list, set_list, Pairs, flat, Answer, notes, says}

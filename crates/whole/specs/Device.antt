@@ -1,7 +1,7 @@
 -- The whole box: a clock, four raw CAN channels and four ISO 15765 channels, and the one place where an event finds its channels. Assumes nothing.
-use Rattle.std.specs.Prelude.{ℕ, zero, suc, ◌+◌, ◌-◌, Bool, true, false, not, ◌&&◌, ◌||◌, List, [], ◌∷◌, get_or, replicate, eqb, ltb}
+use Rattle.std.specs.Prelude.{ℕ, zero, suc, ◌+◌, ◌-◌, Bool, true, false, not, ◌&&◌, ◌||◌, List, [], ◌∷◌, get_or, replicate, eqb, ltb, if◌then◌else◌}
 use Rattle.std.proofs.Math.Option.{Option, none, some}
-use Rattle.codec.specs.Plain.{if◌then◌else◌, within}
+use Rattle.codec.specs.Plain.{within}
 use Rattle.machine.specs.Limits.{lines, can_protocol}
 use Rattle.machine.specs.Channel.{Chan, closed, Call, raw_only, Answer, says, connect_code}
 use Rattle.machine.specs.Step as raw_step

@@ -1,6 +1,5 @@
 -- What messages leave in a store of written messages. Assumes nothing.
-use Rattle.std.specs.Prelude.{ℕ, ◌≡◌, List, [], ◌∷◌, ◌++◌, eqb}
-use Rattle.codec.specs.Plain.{if◌then◌else◌}
+use Rattle.std.specs.Prelude.{ℕ, ◌≡◌, List, [], ◌∷◌, ◌++◌, eqb, if◌then◌else◌}
 use Rattle.codec.specs.Code.{Code}
 use Rattle.machine.specs.Message.{Rec, clean}
 use Rattle.machine.specs.Channel.{Wrote}

@@ -1,10 +1,11 @@
 -- `filtercheck::start_code` meets its contract: its tests are those of a start, in their order. Assumes nothing.
+use Rattle.std.specs.Prelude.{if◌then◌else◌}
 use mathlib.Core.Path.{◌≡◌, sym, ap, ap₂, ◌∙◌}
 use mathlib.Core.Bool.{Bool, not, ◌&&◌, ◌||◌}
 use Prim.Native.Nat.{ℕ, ◌/◌, ◌%◌}
 use lib.Dec.{eqb, leb}
 use borrow.Author.Tests.{le-leb, lt-leb}
-use Rattle.codec.specs.Plain.{if◌then◌else◌, within}
+use Rattle.codec.specs.Plain.{within}
 use Rattle.machine.specs.Limits.{most_data, most_places}
 use Rattle.machine.specs.Message.{bit, protocol_of, size_of, tx_flags_of, wide_of, takes}
 use Rattle.machine.specs.Filter.{free}

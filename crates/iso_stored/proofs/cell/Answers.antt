@@ -1,8 +1,8 @@
 -- `iso_stored::cell` meets its contract, for sending and for reading. Assumes nothing.
+use Rattle.std.specs.Prelude.{if◌then◌else◌}
 use Rattle.iso_stored.proofs.Records.{no_held, a_held}
 use Rattle.iso_layout.specs.Record.{rec536, iso_outgoing, iso_incoming}
 use Rattle.iso.specs.Limits.{iso_data}
-use Rattle.codec.specs.Plain.{if◌then◌else◌}
 use Rattle.codec.proofs.Tests.{true_T}
 use Prim.Native.Nat.{ℕ}
 use mathlib.Core.List.{List}

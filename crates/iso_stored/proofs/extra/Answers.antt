@@ -1,8 +1,8 @@
 -- `iso_stored::extra` meets its contract. Assumes nothing.
+use Rattle.std.specs.Prelude.{if◌then◌else◌}
 use mathlib.Core.Path.{ap, sym, ◌∙◌}
 use mathlib.Core.Bool.{Bool}
 use Prim.Native.Nat.{ℕ}
-use Rattle.codec.specs.Plain.{if◌then◌else◌}
 use Rattle.iso_layout.specs.Record.{extra_is}
 use Rattle.iso_stored.proofs.extra.Goals as goal
 

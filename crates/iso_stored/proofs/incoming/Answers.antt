@@ -1,11 +1,12 @@
 -- `iso_stored::incoming` meets its contract. Assumes nothing.
+use Rattle.std.specs.Prelude.{if◌then◌else◌}
 use Rattle.iso_stored.proofs.Records.{incoming_is, chosen}
 use Rattle.layout.specs.Record.{width_fits}
 use Rattle.machine.specs.Limits.{data_in}
 use Rattle.machine.specs.Message.{bit}
 use Rattle.iso.specs.Limits.{id_size, least_message}
 use Rattle.iso_layout.specs.Record.{indication}
-use Rattle.codec.specs.Plain.{if◌then◌else◌, member}
+use Rattle.codec.specs.Plain.{member}
 use lib.ListN.{drop}
 use lib.Dec.{eqb, leb}
 use Prim.Native.Nat.{ℕ}

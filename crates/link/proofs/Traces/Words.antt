@@ -1,5 +1,6 @@
 -- The words in which a story of one connection is told, and the stage on which it happens: a connection alone, with what is seen of it after each
 -- event. What the channel does around it is said in `machine`. Every definition is open, so that a story is proved by `refl`. Assumes nothing.
+use Rattle.std.specs.Prelude.{if◌then◌else◌}
 use mathlib.Core.Path.{◌≡◌}
 use Prim.Native.Nat.{ℕ, zero, suc, ◌+◌, ◌-◌}
 use mathlib.Core.Bool.{Bool, true, false, not, ◌&&◌}
@@ -7,7 +8,6 @@ use mathlib.Core.Option.{Option, none, some}
 use mathlib.Core.List.{List, [], ◌∷◌, ◌++◌, map}
 use lib.ListN.{length}
 use lib.Dec.{eqb, ltb}
-use Rattle.codec.specs.Plain.{if◌then◌else◌}
 use Rattle.link.specs.Connection.{micros, Asked, Offer, Connection, absent, opening, waits, with_wire, with_talk, with_hear, with_care, anew, exit, leave, telegrams, block_of, next_data, took_to, new_block, ours, set_up_of, offering, offer_data, offer_acknowledge, offer_on, offer_trial, offer_exit, offer, data_sent, landed_on, trial_sent, exit_sent, was_sent, tried, out_later, care_later, wire_later, link_later, exit_later, passing, replied, joined, next_block, acknowledged, breaking, broken, heard_data, answering, data_heard, told, hears, asked_fits, state_of, on_link, under_way, busy, whole, begin, fetched, ended}
 use Rattle.telegram.specs.Bits.{only_if, are_bytes}
 use Rattle.telegram.specs.Telegram.{opening_fits, fields_fit, opening_bytes, id_at, opening_of, read_opening, unused_time, own_connection, fits, on_wire, connection_of, read_channel, time_of}

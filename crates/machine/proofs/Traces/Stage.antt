@@ -1,12 +1,13 @@
 -- THE STAGE on which stories of raw channels are told: four of them side by side with one clock, nothing open, clock 0. What the box itself does with an
 -- event is said in `whole`; here each story's event goes to the channel that it names. Assumes nothing.
+use Rattle.std.specs.Prelude.{if◌then◌else◌}
 use Prim.Native.Nat.{ℕ, suc, ◌+◌, ◌-◌}
 use mathlib.Core.Bool.{Bool, true}
 use mathlib.Core.Option.{Option, none, some}
 use mathlib.Core.List.{List, [], ◌∷◌}
 use lib.ListN.{get_or, replicate}
 use lib.Dec.{eqb, ltb}
-use Rattle.codec.specs.Plain.{if◌then◌else◌, within}
+use Rattle.codec.specs.Plain.{within}
 use Rattle.machine.specs.Limits.{lines}
 use Rattle.machine.specs.Channel.{Chan, closed, Answer}
 use Rattle.machine.specs.Step.{Event, connect, call, frame, advance, close, own_answer, chan_step, clock_after}
