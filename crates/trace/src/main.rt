@@ -9,33 +9,33 @@ use std::io;
 use trace_words::{part, text};
 
 // The code of an event that is answered by its code alone.
-fn plain_code(memory: &mut [u8; MEMORY], rates: &[u32], recording: &[u8], e: Plain) -> u32 {
+fn plain_code(memory: &mut [u8; MEMORY], rates: &[u32], recording: &[u8], e: &Plain) -> u32 {
     match e {
-        Plain::Disconnect(channel) => device::disconnect(memory, channel),
+        Plain::Disconnect(channel) => device::disconnect(memory, *channel),
         Plain::Close => device::close(memory),
-        Plain::Advance(us) => device::advance(memory, us),
+        Plain::Advance(us) => device::advance(memory, *us),
         Plain::Frame {
             line,
             wide,
             id,
             from,
             end,
-        } => device::frame(memory, line, wide, id, part(recording, from, end)),
-        Plain::StopFilter(channel, n) => device::stop_filter(memory, channel, n),
-        Plain::StopPeriodic(channel, n) => device::stop_periodic(memory, channel, n),
-        Plain::Sent(channel) => device::sent(memory, channel),
-        Plain::Clear(channel, kind) => device::clear(memory, channel, kind),
+        } => device::frame(memory, *line, *wide, *id, part(recording, *from, *end)),
+        Plain::StopFilter(channel, n) => device::stop_filter(memory, *channel, *n),
+        Plain::StopPeriodic(channel, n) => device::stop_periodic(memory, *channel, *n),
+        Plain::Sent(channel) => device::sent(memory, *channel),
+        Plain::Clear(channel, kind) => device::clear(memory, *channel, *kind),
         Plain::Set(channel, parameter, value) => {
-            device_channels::set_with(memory, rates, channel, parameter, value)
+            device_channels::set_with(memory, rates, *channel, *parameter, *value)
         }
     }
 }
 
 // The answer to an event that is answered by a number too.
-fn answer(memory: &mut [u8; MEMORY], rates: &[u32], recording: &[u8], e: Giving) -> Answer {
+fn answer(memory: &mut [u8; MEMORY], rates: &[u32], recording: &[u8], e: &Giving) -> Answer {
     match e {
         Giving::Connect(line, protocol, flags, rate) => {
-            device_channels::connect_with(memory, rates, line, protocol, flags, rate)
+            device_channels::connect_with(memory, rates, *line, *protocol, *flags, *rate)
         }
         Giving::StartFilter {
             channel,
@@ -45,10 +45,10 @@ fn answer(memory: &mut [u8; MEMORY], rates: &[u32], recording: &[u8], e: Giving)
             end,
         } => device::start_filter(
             memory,
-            channel,
-            kind,
-            part(recording, mask, pattern),
-            part(recording, pattern, end),
+            *channel,
+            *kind,
+            part(recording, *mask, *pattern),
+            part(recording, *pattern, *end),
         ),
         Giving::StartFlow {
             channel,
@@ -59,19 +59,19 @@ fn answer(memory: &mut [u8; MEMORY], rates: &[u32], recording: &[u8], e: Giving)
             end,
         } => device::start_flow_filter(
             memory,
-            channel,
-            kind,
-            part(recording, mask, pattern),
-            part(recording, pattern, flow),
-            part(recording, flow, end),
+            *channel,
+            *kind,
+            part(recording, *mask, *pattern),
+            part(recording, *pattern, *flow),
+            part(recording, *flow, *end),
         ),
         Giving::StartPeriodic {
             channel,
             from,
             end,
             interval,
-        } => device::start_periodic(memory, channel, part(recording, from, end), interval),
-        Giving::Get(channel, parameter) => device::get(memory, channel, parameter),
+        } => device::start_periodic(memory, *channel, part(recording, *from, *end), *interval),
+        Giving::Get(channel, parameter) => device::get(memory, *channel, *parameter),
     }
 }
 
@@ -101,7 +101,7 @@ fn iso_open(memory: &[u8], line: u32) -> bool {
 }
 
 // What a frame that was accepted is on the ISO 15765 channel of its line, where that is open; nothing of any other event.
-fn heard(out: &impl Print, memory: &[u8], recording: &[u8], e: Plain) -> io::Result<()> {
+fn heard(out: &impl Print, memory: &[u8], recording: &[u8], e: &Plain) -> io::Result<()> {
     if let Plain::Frame {
         line,
         wide: _,
@@ -110,7 +110,7 @@ fn heard(out: &impl Print, memory: &[u8], recording: &[u8], e: Plain) -> io::Res
         end: _,
     } = e
     {
-        if iso_open(memory, line) {
+        if iso_open(memory, *line) {
             trace_events::heard(out, recording, e)?;
         }
     }
@@ -123,7 +123,7 @@ fn coded(
     memory: &mut [u8; MEMORY],
     rates: &[u32],
     recording: &[u8],
-    asked: Plain,
+    asked: &Plain,
 ) -> io::Result<()> {
     trace_events::plain(out, recording, asked)?;
     let code = plain_code(memory, rates, recording, asked);
@@ -143,11 +143,11 @@ fn event(
     e: Event,
 ) -> io::Result<()> {
     match e {
-        Event::Code(asked) => coded(out, memory, rates, recording, asked),
+        Event::Code(asked) => coded(out, memory, rates, recording, &asked),
         Event::Number(asked) => {
-            trace_events::giving(out, asked)?;
-            let answer = answer(memory, rates, recording, asked);
-            trace_events::numbered(out, recording, asked, answer)
+            trace_events::giving(out, &asked)?;
+            let answer = answer(memory, rates, recording, &asked);
+            trace_events::numbered(out, recording, &asked, answer)
         }
         Event::Write {
             channel,

@@ -110,7 +110,7 @@ fn frame(out: &impl Print, line: u32, wide: u32, id: u32, list: &[u8]) -> io::Re
 }
 
 // What the frame of an event is on an ISO 15765 channel of its line, on a line of its own; nothing of any other event.
-pub fn heard(out: &impl Print, recording: &[u8], e: Plain) -> io::Result<()> {
+pub fn heard(out: &impl Print, recording: &[u8], e: &Plain) -> io::Result<()> {
     if let Plain::Frame {
         line: _,
         wide: _,
@@ -120,7 +120,7 @@ pub fn heard(out: &impl Print, recording: &[u8], e: Plain) -> io::Result<()> {
     } = e
     {
         text(out, b"         on ISO 15765: ")?;
-        iso_words::frame(out, part(recording, from, end))?;
+        iso_words::frame(out, part(recording, *from, *end))?;
         text(out, b"\n")?;
     }
     Ok(())
@@ -156,31 +156,37 @@ fn advance(out: &impl Print, us: u32) -> io::Result<()> {
 }
 
 // An event that is answered by its code alone.
-pub fn plain(out: &impl Print, recording: &[u8], e: Plain) -> io::Result<()> {
+pub fn plain(out: &impl Print, recording: &[u8], e: &Plain) -> io::Result<()> {
     match e {
-        Plain::Disconnect(channel) => number(out, b"disconnect channel ", channel),
+        Plain::Disconnect(channel) => number(out, b"disconnect channel ", *channel),
         Plain::Close => text(out, b"close"),
-        Plain::Advance(us) => advance(out, us),
+        Plain::Advance(us) => advance(out, *us),
         Plain::Frame {
             line,
             wide,
             id,
             from,
             end,
-        } => frame(out, line, wide, id, part(recording, from, end)),
+        } => frame(out, *line, *wide, *id, part(recording, *from, *end)),
         Plain::StopFilter(channel, n) => two(
             out,
             b"stop filter, channel ",
-            channel,
+            *channel,
             b", filter ",
-            n,
+            *n,
         ),
         Plain::StopPeriodic(channel, n) => {
-            two(out, b"stop periodic, channel ", channel, b", periodic ", n)
+            two(
+                out,
+                b"stop periodic, channel ",
+                *channel,
+                b", periodic ",
+                *n,
+            )
         }
-        Plain::Sent(channel) => number(out, b"sent, channel ", channel),
-        Plain::Clear(channel, kind) => clear(out, channel, kind),
-        Plain::Set(channel, n, value) => set(out, channel, n, value),
+        Plain::Sent(channel) => number(out, b"sent, channel ", *channel),
+        Plain::Clear(channel, kind) => clear(out, *channel, *kind),
+        Plain::Set(channel, n, value) => set(out, *channel, *n, *value),
     }
 }
 
@@ -217,16 +223,18 @@ fn start_periodic(out: &impl Print, channel: u32, interval: u32) -> io::Result<(
 }
 
 // An event that is answered by a number too.
-pub fn giving(out: &impl Print, e: Giving) -> io::Result<()> {
+pub fn giving(out: &impl Print, e: &Giving) -> io::Result<()> {
     match e {
-        Giving::Connect(line, protocol, flags, rate) => connect(out, line, protocol, flags, rate),
+        Giving::Connect(line, protocol, flags, rate) => connect(
+            out, *line, *protocol, *flags, *rate,
+        ),
         Giving::StartFilter {
             channel,
             kind,
             mask: _,
             pattern: _,
             end: _,
-        } => start_filter(out, channel, kind),
+        } => start_filter(out, *channel, *kind),
         Giving::StartFlow {
             channel,
             kind,
@@ -234,19 +242,19 @@ pub fn giving(out: &impl Print, e: Giving) -> io::Result<()> {
             pattern: _,
             flow: _,
             end: _,
-        } => start_filter(out, channel, kind),
+        } => start_filter(out, *channel, *kind),
         Giving::StartPeriodic {
             channel,
             from: _,
             end: _,
             interval,
-        } => start_periodic(out, channel, interval),
-        Giving::Get(channel, n) => parameter(out, b"get channel ", channel, n),
+        } => start_periodic(out, *channel, *interval),
+        Giving::Get(channel, n) => parameter(out, b"get channel ", *channel, *n),
     }
 }
 
 // The records that such an event lends, a line each.
-fn lent(out: &impl Print, recording: &[u8], e: Giving) -> io::Result<()> {
+fn lent(out: &impl Print, recording: &[u8], e: &Giving) -> io::Result<()> {
     match e {
         Giving::Connect(_, _, _, _) => Ok(()),
         Giving::StartFilter {
@@ -256,8 +264,8 @@ fn lent(out: &impl Print, recording: &[u8], e: Giving) -> io::Result<()> {
             pattern,
             end,
         } => {
-            half(out, b"         mask", part(recording, mask, pattern))?;
-            half(out, b"         pattern", part(recording, pattern, end))
+            half(out, b"         mask", part(recording, *mask, *pattern))?;
+            half(out, b"         pattern", part(recording, *pattern, *end))
         }
         Giving::StartFlow {
             channel: _,
@@ -267,16 +275,16 @@ fn lent(out: &impl Print, recording: &[u8], e: Giving) -> io::Result<()> {
             flow,
             end,
         } => {
-            half(out, b"         mask", part(recording, mask, pattern))?;
-            half(out, b"         pattern", part(recording, pattern, flow))?;
-            half(out, b"         flow", part(recording, flow, end))
+            half(out, b"         mask", part(recording, *mask, *pattern))?;
+            half(out, b"         pattern", part(recording, *pattern, *flow))?;
+            half(out, b"         flow", part(recording, *flow, *end))
         }
         Giving::StartPeriodic {
             channel,
             from,
             end,
             interval: _,
-        } => channel_records(out, channel, false, part(recording, from, end)),
+        } => channel_records(out, *channel, false, part(recording, *from, *end)),
         Giving::Get(_, _) => Ok(()),
     }
 }
@@ -294,7 +302,7 @@ pub fn coded(out: &impl Print, n: u32) -> io::Result<()> {
 }
 
 // The number that such an event gives where it is done.
-fn given(out: &impl Print, e: Giving, value: u32) -> io::Result<()> {
+fn given(out: &impl Print, e: &Giving, value: u32) -> io::Result<()> {
     match e {
         Giving::Connect(_, _, _, _) => number(out, b", channel ", value),
         Giving::StartFilter {
@@ -323,7 +331,7 @@ fn given(out: &impl Print, e: Giving, value: u32) -> io::Result<()> {
 }
 
 // The answer to an event that is answered by a number too, and the records that it lends.
-pub fn numbered(out: &impl Print, recording: &[u8], e: Giving, answer: Answer) -> io::Result<()> {
+pub fn numbered(out: &impl Print, recording: &[u8], e: &Giving, answer: Answer) -> io::Result<()> {
     arrow(out, answer.code)?;
     if answer.code == codes::STATUS_NOERROR {
         given(out, e, answer.value)?;
@@ -364,9 +372,9 @@ pub fn given_records(
     answer: Answer,
     buffer: &[u8],
 ) -> io::Result<()> {
+    let n = answer.value as usize;
     counted(out, answer)?;
-    let size = recording_sizes::record_on(channel);
-    let list = input::first(buffer, answer.value as usize * size);
+    let list = input::first(buffer, n * recording_sizes::record_on(channel));
     channel_records(out, channel, true, list)
 }
 

@@ -1,0 +1,29 @@
+-- Each piece that `cases::replay` plays moves the place and fits behind what is written, or there is no room.
+use Rattle.std.proofs.Common.{ℕ, ◌+◌, ◌-◌, ◌≤◌, List, length, take, drop, arith, rules}
+use Rattle.std.proofs.lemmas.List.{length-take, length-drop}
+use Rattle.codec.proofs.Lists.{bytes_of_law}
+use Rattle.recording.proofs.Joined.{Went, done_goes_on}
+use Rattle.cases.proofs.replay.Goals as goal
+
+-- what is lent of the output: all behind what is written
+abbrev lent : goal.Else-played-ne-STATUS_NOERROR → List ℕ
+lent c = take (length c.loop-at.out - c.loop-at.length) (drop c.loop-at.length c.loop-at.out)
+
+went : (c : goal.Else-played-ne-STATUS_NOERROR) → Went c.loop-at.at (length (lent c)) c.play_on-played.result.at c.play_on-played.result.length c.play_on-played.new.mem
+went c =
+    let s = c.args.recording.now in
+    done_goes_on s (bytes_of_law s (λ i. (c.shared_slice_known-1.given i).fits)) c.loop-at.mem c.loop-at.at (lent c) c.loop-at-test.true c.play_on-played.ensures (omega arith) c.if-played-ne-STATUS_NOERROR.false
+
+behind : (c : goal.Else-played-ne-STATUS_NOERROR) → c.loop-at.length + c.play_on-played.result.length ≤ length c.loop-at.out
+behind c =
+    let l = c.loop-at in
+    omega (arith, (went c).fits, length-take (length l.out - l.length) (drop l.length l.out), length-drop l.length l.out, l.invariant.1, l.invariant.2)
+
+pub overflow_add-length : goal.overflow_add-length
+overflow_add-length c = record { fits = omega (arith, behind c, c.loop-at.invariant.1) }
+
+pub loop-at-smaller : goal.loop-at-smaller
+loop-at-smaller c = omega (arith, (went c).on, c.loop-at-test.true)
+
+pub loop-at-preserved : goal.loop-at-preserved
+loop-at-preserved c = (search rules, search rules, omega (arith, behind c, c.loop-at.invariant.1))
