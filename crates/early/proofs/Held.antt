@@ -23,7 +23,7 @@ use Rattle.layout.specs.Sizes.{widths_in, sizes_in, masks_in, patterns_in, filte
 use Rattle.layout.specs.Memory.{FilterRow, filter_back, filter_fits, filter_columns, filters, taken_fits}
 use Rattle.layout.proofs.Memory.{filter_fits_law}
 use Rattle.filterbank.specs.Part.{FilterPart}
-use Rattle.filterbank.proofs.Held.{rows_of, row_at, nothing, ten_held, held_at, type_at, width_at, size_at_law, mask_at_law, pattern_at_law, size_small}
+use Rattle.filterbank.proofs.Held.{rows_of, row_at, nothing, ten_held, held_at, type_at, width_at, size_at_law, mask_at as mask_at_law, pattern_at_law, size_small}
 use Rattle.filterwalk.specs.Columns.{listed}
 use Rattle.filterwalk.proofs.Listed.{listed_at}
 use Rattle.early_rule.specs.Words.{value, digits, mask_word, pattern_word, met_by, size_at, Conds}

@@ -36,9 +36,9 @@ use Rattle.iso_layout.proofs.Calls.{writing_ok}
 use Rattle.message.proofs.Laws.{id_of_data}
 use Rattle.writing.specs.Store.{Queued, Stopped}
 use Rattle.writing.proofs.Loop.{Kind, Turn, one_queued, refused_as, no_turn}
-use Rattle.iso_writing_law.specs.declared.Flow.{Flow}
-use Rattle.iso_writing_law.specs.Written.{messages, MessagesPart, talk_by, talks_by, unmatched}
-use Rattle.iso_writing_law.proofs.Flows.{same_place, under}
+use Rattle.iso_writing.specs.declared.Flow.{Flow}
+use Rattle.iso_writing.specs.Written.{messages, MessagesPart, talk_by, talks_by, unmatched}
+use Rattle.iso_writing.proofs.Flows.{same_place, under}
 
 -- ---- one message
 

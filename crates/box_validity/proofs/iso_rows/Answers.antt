@@ -18,10 +18,10 @@ loop-i-init c = (omega arith, refl)
 
 pub loop-i-preserved : goal.loop-i-preserved
 loop-i-preserved c = let a : ℕ = isos_at + c.loop-i.i * iso_region_size in (
-      omega arith,
-      ap (λ (b : Bool). c.loop-i.good && b) c.iso_region-good.ensures
-          ∙ turn iso_region iso_region_size iso_region_size_law isos_at c.loop-i.i a (a + iso_region_size - a) c.args.mem.now c.loop-i.good refl (omega arith) c.loop-i.invariant.1,
-    )
+  omega arith,
+  ap (λ (b : Bool). c.loop-i.good && b) c.iso_region-good.ensures
+      ∙ turn iso_region iso_region_size iso_region_size_law isos_at c.loop-i.i a (a + iso_region_size - a) c.args.mem.now c.loop-i.good refl (omega arith) c.loop-i.invariant.1,
+)
 
 pub returns : goal.returns
 returns c = let e : c.loop-i.i ≡ lines = omega arith in

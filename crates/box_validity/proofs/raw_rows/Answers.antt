@@ -17,10 +17,10 @@ loop-i-init c = (omega arith, refl)
 
 pub loop-i-preserved : goal.loop-i-preserved
 loop-i-preserved c = let a : ℕ = number_size + c.loop-i.i * region_size in (
-      omega arith,
-      ap (λ (b : Bool). c.loop-i.good && b) c.region_valid-good.ensures
-          ∙ turn region region_size region_size_law number_size c.loop-i.i a (a + region_size - a) c.args.mem.now c.loop-i.good refl (omega arith) c.loop-i.invariant.1,
-    )
+  omega arith,
+  ap (λ (b : Bool). c.loop-i.good && b) c.region_valid-good.ensures
+      ∙ turn region region_size region_size_law number_size c.loop-i.i a (a + region_size - a) c.args.mem.now c.loop-i.good refl (omega arith) c.loop-i.invariant.1,
+)
 
 pub returns : goal.returns
 returns c = let e : c.loop-i.i ≡ lines = omega arith in

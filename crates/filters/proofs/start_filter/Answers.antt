@@ -43,12 +43,11 @@ returns-then-code-ne-STATUS_NOERROR c =
     c.start_code-code.ensures (open_of r) (sym (c.word_at.ensures.0 ∙ flags_are r c.requires)) (sym ((let told : c.first_free-place.result ≡ free (open_of c.args.r.now).filters = c.first_free-place.ensures 0 ∙ ap free (held_is c.args.r.now c.requires 0) in told))) in told)) c.if-code-ne-STATUS_NOERROR.true
 
 pub put_filter-requires : goal.put_filter-requires
-put_filter-requires c =
-    (
-      part_lent c.args.r.now c.requires,
-      below_ten (goal.at.put_filter-requires c).Else-code-ne-STATUS_NOERROR,
-      checked (open_of c.args.r.now) c.args.kind c.args.mask.now c.args.pattern.now (sym (good (goal.at.put_filter-requires c).Else-code-ne-STATUS_NOERROR)),
-    )
+put_filter-requires c = (
+  part_lent c.args.r.now c.requires,
+  below_ten (goal.at.put_filter-requires c).Else-code-ne-STATUS_NOERROR,
+  checked (open_of c.args.r.now) c.args.kind c.args.mask.now c.args.pattern.now (sym (good (goal.at.put_filter-requires c).Else-code-ne-STATUS_NOERROR)),
+)
 
 pub remake-requires : goal.remake-requires
 remake-requires c =

@@ -27,8 +27,7 @@ put_fixed-next-requires c =
 pub loop-i-preserved : goal.loop-i-preserved
 loop-i-preserved c =
     let here : Writing c.args.out.now c.args.at (data_text c.args.bytes.now) (fixed 16 2 (get_or c.args.bytes.now c.loop-i.i 0) ++ data_text (drop (c.loop-i.i + 1) c.args.bytes.now)) c.loop-i.place c.loop-i.out =
-    subst (λ (l : List ℕ). Writing c.args.out.now c.args.at (data_text c.args.bytes.now) l c.loop-i.place c.loop-i.out) (data_more c.args.bytes.now c.loop-i.i c.loop-i-test.true) c.loop-i.invariant.2 in
-    (
+    subst (λ (l : List ℕ). Writing c.args.out.now c.args.at (data_text c.args.bytes.now) l c.loop-i.place c.loop-i.out) (data_more c.args.bytes.now c.loop-i.i c.loop-i-test.true) c.loop-i.invariant.2 in (
       omega arith,
       c.put_fixed-next.auto.out ∙ c.loop-i.invariant.1,
       on (fixed 16 2 (get_or c.args.bytes.now c.loop-i.i 0)) (data_text (drop (c.loop-i.i + 1) c.args.bytes.now)) here c.put_fixed-next.ensures,

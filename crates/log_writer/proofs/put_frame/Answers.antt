@@ -18,8 +18,7 @@ one n m h = omega arith
 -- what is left behind each piece
 pub put_fixed-named-requires : goal.put_fixed-named-requires
 put_fixed-named-requires c =
-    let w₀ = begun c.args.out.now c.args.at ((fixed 16 (id_digits c.args.wide) c.args.id) ++ (hash ∷ (data_text c.args.bytes.now))) c.requires in
-    (
+    let w₀ = begun c.args.out.now c.args.at ((fixed 16 (id_digits c.args.wide) c.args.id) ++ (hash ∷ (data_text c.args.bytes.now))) c.requires in (
       omega arith,
       omega arith,
       subst (λ (n : ℕ). c.args.at + n ≤ length c.args.out.now) (fixed_long 16 (id_digits c.args.wide) c.args.id ∙ sym c.id_digits.ensures)

@@ -41,7 +41,7 @@ loop-place-init c =
 
 near : (c : goal.After-moved_to-reader)
     → Nearer c.args.recording.now c.args.out.now (piece_from c.args.recording.now (state c.args.mem.now c.args.out.now c.args.at 0)) (length c.args.recording.now - c.loop-place.reader.at)
-        (state c.play_at-turn.new.mem c.play_at-turn.new.out c.play_at-turn.result.next c.play_at-turn.result.place)
+    (state c.play_at-turn.new.mem c.play_at-turn.new.out c.play_at-turn.result.next c.play_at-turn.result.place)
 near c =
     let l = c.loop-place in
     let v = l.invariant in

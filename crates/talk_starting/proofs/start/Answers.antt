@@ -32,8 +32,7 @@ returns-then-may_start c =
 
 -- src/lib.rt:58:1
 pub returns : goal.returns
-returns c =
-    (
-      λ m k ew ei eb. starts_none c.args.t.now c.requires.0 c.if-t-eq0.false m k c.args.wide c.args.id ew ei [] (sym c.may_start.ensures ∙ c.if-may_start.false),
-      omega arith,
-    )
+returns c = (
+  λ m k ew ei eb. starts_none c.args.t.now c.requires.0 c.if-t-eq0.false m k c.args.wide c.args.id ew ei [] (sym c.may_start.ensures ∙ c.if-may_start.false),
+  omega arith,
+)
