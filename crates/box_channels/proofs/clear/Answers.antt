@@ -1,4 +1,5 @@
 -- `box_channels::clear` meets its contract. Assumes nothing.
+use Rattle.machine.specs.Channel.{lent, clear}
 use mathlib.Core.Path.{◌≡◌, refl}
 use mathlib.Core.List.{[]}
 use native.Mathlib.Omega.{arith}
@@ -33,7 +34,8 @@ returns c rates =
     iso_called _ c.requires _ _ seat rates _ _ _ _ _ _ long (c.clear_in-code-2.ensures rates _) c.note-2.ensures refl
 
 pub returns-then-a-eq0 : goal.returns-then-a-eq0
-returns-then-a-eq0 c rates = c.region_of-a.ensures.refused c.if-a-eq0.true rates _
+unfolding lent
+returns-then-a-eq0 c rates = c.region_of-a.ensures.refused c.if-a-eq0.true rates (clear c.args.kind)
 
 pub overflow_add-a : goal.overflow_add-a
 overflow_add-a c = omega arith

@@ -1,4 +1,5 @@
 -- `box_channels::disconnect` meets its contract. Assumes nothing.
+use Rattle.machine.specs.Channel.{lent, disconnect}
 use mathlib.Core.Path.{◌≡◌, refl}
 use native.Mathlib.Omega.{arith}
 use lib.ListN.{length}
@@ -25,7 +26,8 @@ returns c rates =
     iso_called _ c.requires _ _ seat rates _ _ _ _ _ _ long (c.disconnect_in-2.ensures rates _) refl refl
 
 pub returns-then-a-eq0 : goal.returns-then-a-eq0
-returns-then-a-eq0 c rates = c.region_of-a.ensures.refused c.if-a-eq0.true rates _
+unfolding lent
+returns-then-a-eq0 c rates = c.region_of-a.ensures.refused c.if-a-eq0.true rates disconnect
 
 pub overflow_add-a : goal.overflow_add-a
 overflow_add-a c = omega arith

@@ -1,4 +1,5 @@
 -- `box_channels::get` meets its contract. Assumes nothing.
+use Rattle.machine.specs.Channel.{lent, get_parameter}
 use mathlib.Core.Path.{refl}
 use mathlib.Core.List.{[]}
 use native.Mathlib.Omega.{arith}
@@ -26,7 +27,8 @@ returns c rates =
     iso_looked _ c.requires _ _ seat rates _ _ _ _ (c.get_in-told-2.ensures rates _) _ c.note-2.ensures refl
 
 pub returns-then-a-eq0 : goal.returns-then-a-eq0
-returns-then-a-eq0 c rates = c.region_of-a.ensures.refused c.if-a-eq0.true rates _
+unfolding lent
+returns-then-a-eq0 c rates = c.region_of-a.ensures.refused c.if-a-eq0.true rates (get_parameter c.args.parameter)
 
 pub overflow_add-a : goal.overflow_add-a
 overflow_add-a c = omega arith

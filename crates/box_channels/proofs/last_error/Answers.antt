@@ -1,4 +1,5 @@
 -- `box_channels::last_error` meets its contract. Assumes nothing.
+use Rattle.machine.specs.Channel.{lent, last_error}
 use mathlib.Core.Path.{refl}
 use native.Mathlib.Omega.{arith}
 use Rattle.layout.specs.Promise as raw_promise
@@ -20,7 +21,8 @@ returns c rates =
     iso_looked _ c.requires _ _ seat rates _ _ _ _ (c.last_in-2.ensures rates _) _ refl refl
 
 pub returns-then-a-eq0 : goal.returns-then-a-eq0
-returns-then-a-eq0 c rates = c.region_of-a.ensures.refused c.if-a-eq0.true rates _
+unfolding lent
+returns-then-a-eq0 c rates = c.region_of-a.ensures.refused c.if-a-eq0.true rates last_error
 
 pub overflow_add-a : goal.overflow_add-a
 overflow_add-a c = omega arith

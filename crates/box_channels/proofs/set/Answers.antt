@@ -1,4 +1,5 @@
 -- `box_channels::set` meets its contract. Assumes nothing.
+use Rattle.machine.specs.Channel.{lent, set_parameter}
 use mathlib.Core.Path.{◌≡◌, refl}
 use native.Mathlib.Omega.{arith}
 use lib.ListN.{length}
@@ -32,7 +33,8 @@ returns c =
     iso_called _ c.requires _ _ seat _ _ _ _ _ _ _ long (c.set_in-code-2.ensures _) c.note-2.ensures refl
 
 pub returns-then-a-eq0 : goal.returns-then-a-eq0
-returns-then-a-eq0 c = c.region_of-a.ensures.refused c.if-a-eq0.true _ _
+unfolding lent
+returns-then-a-eq0 c = c.region_of-a.ensures.refused c.if-a-eq0.true c.args.rates.now (set_parameter c.args.parameter c.args.value)
 
 pub overflow_add-a : goal.overflow_add-a
 overflow_add-a c = omega arith

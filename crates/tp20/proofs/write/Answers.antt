@@ -1,0 +1,17 @@
+-- `tp20::write` meets its contract. Assumes nothing.
+use borrow.Author.Tests.{lt-ltb, le-ltb}
+use Rattle.telegram.specs.Telegram.{any_fits, any_bytes}
+use Rattle.telegram_types.specs.Face.{wrote, refusal, said, writing}
+use Rattle.tp20.proofs.write.Goals as goal
+
+pub returns-then-buf-lt8 : goal.returns-then-buf-lt8
+unfolding wrote refusal writing
+returns-then-buf-lt8 c = rw (lt-ltb _ 8 c.if-buf-lt8.true)
+
+pub returns-in-Opening : goal.returns-in-Opening
+unfolding said writing any_fits any_bytes
+returns-in-Opening c = rw (c.in-Opening.is, le-ltb _ 8 c.if-buf-lt8.false) c.opening.ensures
+
+pub returns-in-Channel : goal.returns-in-Channel
+unfolding said writing any_fits any_bytes
+returns-in-Channel c = rw (c.in-Channel.is, le-ltb _ 8 c.if-buf-lt8.false) c.channel.ensures
