@@ -6,15 +6,15 @@ use Rattle.recording.proofs.Joined.{Went, done_goes_on}
 use Rattle.cases.proofs.replay.Goals as goal
 
 -- what is lent of the output: all behind what is written
-abbrev lent : goal.Else-played-ne-STATUS_NOERROR → List ℕ
+abbrev lent : goal.After-struct_known-in-loop-at-1 → List ℕ
 lent c = take (length c.loop-at.out - c.loop-at.length) (drop c.loop-at.length c.loop-at.out)
 
-went : (c : goal.Else-played-ne-STATUS_NOERROR) → Went c.loop-at.at (length (lent c)) c.play_on-played.result.at c.play_on-played.result.length c.play_on-played.new.mem
+went : (c : goal.After-struct_known-in-loop-at-1) → Went c.loop-at.at (length (lent c)) c.play_on-played.result.at c.play_on-played.result.length c.play_on-played.new.mem
 went c =
     let s = c.args.recording.now in
     done_goes_on s (bytes_of_law s (λ i. (c.shared_slice_known-1.given i).fits)) c.loop-at.mem c.loop-at.at (lent c) c.loop-at-test.true c.play_on-played.ensures (omega arith) c.if-played-ne-STATUS_NOERROR.false
 
-behind : (c : goal.Else-played-ne-STATUS_NOERROR) → c.loop-at.length + c.play_on-played.result.length ≤ length c.loop-at.out
+behind : (c : goal.After-struct_known-in-loop-at-1) → c.loop-at.length + c.play_on-played.result.length ≤ length c.loop-at.out
 behind c =
     let l = c.loop-at in
     omega (arith, (went c).fits, length-take (length l.out - l.length) (drop l.length l.out), length-drop l.length l.out, l.invariant.1, l.invariant.2)
