@@ -171,8 +171,7 @@ advance_settled κs a x y p q = ap (λ (s : Result). (s.code, (s.memory, x.1.1))
 pub frame_settled : OneOutcome 2 frame_kinds.ps frame_kinds.r frame.Post
 frame_settled κs a x y p q = ap (λ (s : Result). (s.code, (s.memory, x.1.1))) (p ∙ sym q)
 
--- the two lists, whose functions are walked by hand: `SetPost` and `GetPost` are their postconditions (device_lists, Settled `set_list_says`,
--- `get_list_says`)
+-- the two lists: `SetPost` and `GetPost` are their postconditions (device_lists, Settled `set_list_says`, `get_list_says`)
 pub set_list_settled : (m : List ℕ) (k : ℕ) (ps : List Pair) → Settled (SetPost m k ps)
 set_list_settled = lists.set_list_settled
 

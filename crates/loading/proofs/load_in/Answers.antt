@@ -11,9 +11,14 @@ returns-then-not-good c =
     c.if-not-good.true
 
 pub replace-requires : goal.replace-requires
-replace-requires c =
-    (c.requires, record { rates = c.args.rates.now; done = (let told : Done c.args.rates.now (open_of c.args.r.now) c.args.store.now = taken c.args.r.now c.requires c.args.rates.now c.args.store.now c.word_at.result c.good.result c.word_at.ensures.0 c.good.ensures
-    c.if-not-good.false in told) })
+replace-requires c = (
+  c.requires,
+  record {
+    rates = c.args.rates.now;
+    done = (let told : Done c.args.rates.now (open_of c.args.r.now) c.args.store.now = taken c.args.r.now c.requires c.args.rates.now c.args.store.now c.word_at.result c.good.result c.word_at.ensures.0 c.good.ensures
+        c.if-not-good.false in told);
+  },
+)
 
 pub returns : goal.returns
 returns c =

@@ -8,11 +8,10 @@ use Rattle.replacing.proofs.Parts.{filters_ok, front_zero, filled_unmapped, fill
 use Rattle.replacing.proofs.put_filters.Goals as goal
 
 pub fill_filters-next-requires : goal.fill_filters-next-requires
-fill_filters-next-requires c =
-    (
-      list_there filter_in c.args.store.now c.args.at c.number_there-count.result.value c.number_there-count.result.next c.number_there-count.ensures c.requires.0,
-      front_zero c.args.part.now c.requires.1 c.zero.new.d c.zero.ensures,
-    )
+fill_filters-next-requires c = (
+  list_there filter_in c.args.store.now c.args.at c.number_there-count.result.value c.number_there-count.result.next c.number_there-count.ensures c.requires.0,
+  front_zero c.args.part.now c.requires.1 c.zero.new.d c.zero.ensures,
+)
 
 pub remake-requires : goal.remake-requires
 remake-requires c =

@@ -9,11 +9,10 @@ use Rattle.store_filling.proofs.Entries.{list_there, slots_given}
 use Rattle.replacing.proofs.put_periodics.Goals as goal
 
 pub fill_periodics-requires : goal.fill_periodics-requires
-fill_periodics-requires c =
-    (
-      list_there periodic_in c.args.store.now c.args.at c.number_there-count.result.value c.number_there-count.result.next c.number_there-count.ensures c.requires.0,
-      c.zero.ensures ∙ ap (λ (n : ℕ). zeros n) c.requires.1,
-    )
+fill_periodics-requires c = (
+  list_there periodic_in c.args.store.now c.args.at c.number_there-count.result.value c.number_there-count.result.next c.number_there-count.ensures c.requires.0,
+  c.zero.ensures ∙ ap (λ (n : ℕ). zeros n) c.requires.1,
+)
 
 pub returns : goal.returns
 returns c =

@@ -88,8 +88,7 @@ put_clean-masked-requires c =
     let part = c.args.part.now in
     let i = c.args.i in
     let v = c.requires.0 in
-    let h = c.requires.1 in
-    (
+    let h = c.requires.1 in (
       omega (
         arith,
         next_fits (mask part i) _ (typed part i v h c.args.out.now c.args.at c.requires.2 c.wide-kind.ensures.0 c.if-kind-eq0.false c.put_number-named.ensures c.put_number-typed.ensures),
@@ -106,8 +105,7 @@ put_clean-requires c =
     let part = c.args.part.now in
     let i = c.args.i in
     let v = c.requires.0 in
-    let h = c.requires.1 in
-    (
+    let h = c.requires.1 in (
       omega (
         arith,
         rest_fits (masked part i v h c.args.out.now c.args.at c.requires.2 c.wide-kind.ensures.0 c.if-kind-eq0.false c.put_number-named.ensures c.put_number-typed.ensures c.put_clean-masked.ensures),

@@ -70,19 +70,17 @@ put_number-flagged-requires c =
 
 pub put_filters-filtered-requires : goal.put_filters-filtered-requires
 put_filters-filtered-requires c =
-    let r = c.args.r.now in
-    (
+    let r = c.args.r.now in (
       part_lent r c.requires.0,
       next_fits (filters r) _ (flagged r c.requires.0 c.args.out.now c.requires.1 c.put_number-versioned.ensures c.word_at.ensures.0 c.put_number-flagged.ensures),
     )
 
 pub put_periodics-timed-requires : goal.put_periodics-timed-requires
 put_periodics-timed-requires c =
-    let r = c.args.r.now in
-    (
+    let r = c.args.r.now in (
       lent r c.requires.0,
       next_fits (periodics r) _
-      (filtered r c.requires.0 c.args.out.now c.requires.1 c.put_number-versioned.ensures c.word_at.ensures.0 c.put_number-flagged.ensures c.put_filters-filtered.ensures),
+          (filtered r c.requires.0 c.args.out.now c.requires.1 c.put_number-versioned.ensures c.word_at.ensures.0 c.put_number-flagged.ensures c.put_filters-filtered.ensures),
     )
 
 pub put_number-rated-requires : goal.put_number-rated-requires

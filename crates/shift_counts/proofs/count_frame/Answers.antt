@@ -18,13 +18,12 @@ returns-then-mem-a-eq0 c rates =
     frame_closed c.args.mem.now c.requires.0 c.args.numbers.now c.requires.1 rates _ c.args.wide c.args.id c.args.bytes.now c.if-index-ge-LINES.false _ c.frame_code-code.ensures c.if-code-ne-STATUS_NOERROR.false c.if-mem-a-eq0.true
 
 pub count_offered-requires : goal.count_offered-requires
-count_offered-requires c =
-    (
-      frame_open c.args.mem.now c.requires.0 c.args.numbers.now c.requires.1 [] _ c.args.wide c.args.id c.args.bytes.now c.if-index-ge-LINES.false _ c.frame_code-code.ensures c.if-code-ne-STATUS_NOERROR.false c.if-mem-a-eq0.false,
-      c.if-index-ge-LINES.false,
-      frame_short c.args.mem.now c.requires.0 c.args.numbers.now c.requires.1 [] c.args.line c.args.wide c.args.id c.args.bytes.now c.if-index-ge-LINES.false _ c.frame_code-code.ensures c.if-code-ne-STATUS_NOERROR.false,
-      c.requires.1,
-    )
+count_offered-requires c = (
+  frame_open c.args.mem.now c.requires.0 c.args.numbers.now c.requires.1 [] _ c.args.wide c.args.id c.args.bytes.now c.if-index-ge-LINES.false _ c.frame_code-code.ensures c.if-code-ne-STATUS_NOERROR.false c.if-mem-a-eq0.false,
+  c.if-index-ge-LINES.false,
+  frame_short c.args.mem.now c.requires.0 c.args.numbers.now c.requires.1 [] c.args.line c.args.wide c.args.id c.args.bytes.now c.if-index-ge-LINES.false _ c.frame_code-code.ensures c.if-code-ne-STATUS_NOERROR.false,
+  c.requires.1,
+)
 
 pub returns : goal.returns
 returns c rates =

@@ -18,13 +18,12 @@ add-requires-2 c =
     (c.add.ensures.long ∙ c.requires.3.long, c.requires.1, fate_small _ _ _ _ c.fate-fate.ensures, omega (arith, c.add.ensures.most longest c.requires.3.small (c.args.line * of_channel + c.fate-fate.result)))
 
 pub add-requires-3 : goal.add-requires-3
-add-requires-3 c =
-    (
-      c.add-2.ensures.long ∙ (c.add.ensures.long ∙ c.requires.3.long),
-      c.requires.1,
-      omega arith,
-      omega (arith, c.add-2.ensures.most (longest + 1) (c.add.ensures.most longest c.requires.3.small) (c.args.line * of_channel + at_lost), c.lost-gone.ensures.1),
-    )
+add-requires-3 c = (
+  c.add-2.ensures.long ∙ (c.add.ensures.long ∙ c.requires.3.long),
+  c.requires.1,
+  omega arith,
+  omega (arith, c.add-2.ensures.most (longest + 1) (c.add.ensures.most longest c.requires.3.small) (c.args.line * of_channel + at_lost), c.lost-gone.ensures.1),
+)
 
 pub returns : goal.returns
 returns c =

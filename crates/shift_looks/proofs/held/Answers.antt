@@ -7,8 +7,7 @@ pub returns-then-r-eq0 : goal.returns-then-r-eq0
 returns-then-r-eq0 c = (none_held c.args.r.now c.requires.0 c.requires.1 c.if-r-eq0.true, omega arith)
 
 pub returns : goal.returns
-returns c =
-    (
-      so_many_held c.args.r.now c.requires.0 c.requires.1 c.if-r-eq0.false _ c.wide.ensures.0,
-      few_held c.args.r.now c.requires.0 c.requires.1 c.if-r-eq0.false _ c.wide.ensures.0,
-    )
+returns c = (
+  so_many_held c.args.r.now c.requires.0 c.requires.1 c.if-r-eq0.false _ c.wide.ensures.0,
+  few_held c.args.r.now c.requires.0 c.requires.1 c.if-r-eq0.false _ c.wide.ensures.0,
+)
