@@ -7,6 +7,10 @@ use lib.ListN.{length, take, drop, set, length-append, length-take, length-drop,
 use lib.Seq.{length-take-le, take_at, drop_at, take-append-le, take-take, drop-drop, drop-append-le, set_split}
 use borrow.Author.Tests.{eq-eqb, ne_eqb}
 use borrow.Rule.Slice.PartMut.{put_mid, mid_of}
+use Rattle.std.specs.Prelude.{Result, Ok, Err}
+use Rattle.codes.specs.Code.{number_of, code_of, value_of}
+use Rattle.codes.specs.declared.Refusal.{Refusal}
+use Rattle.codes.proofs.Laws.{not_done}
 use Rattle.number.specs.Number.{bytes_of}
 use Rattle.number.specs.Place.{Written}
 use Rattle.number.proofs.Laws.{written_short}
@@ -114,3 +118,20 @@ module _ {b after : List ℕ} {at code n : ℕ} (w : Written b at code n after) 
   pub put_refused : (v : ℕ) → (code ≡ 0 → ⊥) → Put b at (numbered code v) n after
   unfolding on_done
   put_refused v e = rw (ne_eqb code 0 e, append-nil (bytes_of code)) first
+
+-- ---- an answer: its code and, where it is no refusal, its number
+abbrev told : Result ℕ Refusal → List ℕ
+told a = numbered (code_of a) (value_of a)
+
+module _ {b after : List ℕ} {at code n : ℕ} (w : Written b at code n after) (room : at + 10 ≤ length b) {a : Result ℕ Refusal} (is : code ≡ code_of a) where
+  pub put_ok : {v : ℕ} → a ≡ Ok v → {later : List ℕ} {m : ℕ} → Written after n v m later → Put b at (told a) m later
+  put_ok {v} q {later} {m} x =
+      let done : code ≡ 0 = is ∙ ap (λ (r : Result ℕ Refusal). code_of r) q in
+      subst (λ (r : Result ℕ Refusal). Put b at (told r) m later) (sym q)
+      (subst (λ (k : ℕ). Put b at (numbered k v) m later) done (put_done_law w room v done x))
+
+  pub put_err : {e : Refusal} → a ≡ Err e → Put b at (told a) n after
+  put_err {e} q =
+      let refused : code ≡ number_of e = is ∙ ap (λ (r : Result ℕ Refusal). code_of r) q in
+      subst (λ (r : Result ℕ Refusal). Put b at (told r) n after) (sym q)
+      (subst (λ (k : ℕ). Put b at (numbered k 0) n after) refused (put_refused w room 0 (λ z. not_done e (sym refused ∙ z))))

@@ -2,10 +2,13 @@
 #![tactic(auto)]
 
 ghost use Rattle.std.specs.Prelude.{◌≡◌, ◌+◌, ◌≤◌, length};
+ghost use Rattle.codes.specs.Code.{code_of, value_of};
 ghost use Rattle.number.specs.Number.{bytes_of};
 ghost use Rattle.number.specs.Place.{Written};
 ghost use Rattle.answers.specs.Output.{numbered, counted};
 ghost use Rattle.answers.specs.Put.{Put};
+
+use codes::{Moved, Refusal};
 
 // How many bytes a number takes.
 pub fn number_size(value: u32) -> usize
@@ -33,6 +36,7 @@ pub fn put_number(out: &mut [u8], at: usize, value: u32) -> usize
 {
     let mut place = at;
     let mut rest = value;
+    // the number is divided until nothing is left: no index is counted
     while rest > 127 {
         out[place] = (128 + rest % 128) as u8;
         rest /= 128;
@@ -42,23 +46,23 @@ pub fn put_number(out: &mut [u8], at: usize, value: u32) -> usize
     place + 1
 }
 
-// Writes a code from a place on and, where it is 0x00, the number; gives the place after them.
-pub fn put_done(out: &mut [u8], at: usize, code: u32, value: u32) -> usize
+// Writes the code of an answer from a place on and, where it is no refusal, its number; gives the place after them.
+pub fn put_done(out: &mut [u8], at: usize, answer: Result<u32, Refusal>) -> usize
     requires { at + 10 ≤ length out.old }
-    ensures { Put out.old at (numbered code value) result out.new }
+    ensures { Put out.old at (numbered (code_of answer) (value_of answer)) result out.new }
 {
-    let next = put_number(out, at, code);
-    if code != codes::STATUS_NOERROR {
+    let next = put_number(out, at, codes::code_of(answer));
+    let Ok(value) = answer else {
         return next;
-    }
+    };
     put_number(out, next, value)
 }
 
-// Writes a code and a count from a place on; gives the place after them.
-pub fn put_count(out: &mut [u8], at: usize, code: u32, count: u32) -> usize
+// Writes why a call moved no more records from a place on, as its code, and how many it moved; gives the place after them.
+pub fn put_count(out: &mut [u8], at: usize, moved: Moved) -> usize
     requires { at + 10 ≤ length out.old }
-    ensures { Put out.old at (counted code count) result out.new }
+    ensures { Put out.old at (counted (code_of moved.end) moved.count) result out.new }
 {
-    let next = put_number(out, at, code);
-    put_number(out, next, count)
+    let next = put_number(out, at, codes::code_of(moved.end));
+    put_number(out, next, moved.count)
 }

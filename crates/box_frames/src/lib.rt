@@ -2,6 +2,7 @@
 #![tactic(auto)]
 
 ghost use Rattle.std.specs.Prelude.{◌≡◌, List, [], ℕ, T, length};
+ghost use Rattle.codes.specs.Code.{code_of};
 ghost use Rattle.machine.specs.Channel.{frame_code, on_frame};
 ghost use Rattle.machine.specs.Step.{frame as framed};
 ghost use Rattle.layout.specs.Sizes.{region_size};
@@ -11,6 +12,7 @@ ghost use Rattle.memory.specs.Memory.{valid};
 ghost use Rattle.memory.specs.Promise.{outcome};
 
 use box_places::ISO_REGIONS;
+use codes::Refusal;
 use places::{LINES, REGIONS};
 
 // A good frame at a clock, on the region of a raw channel, open or closed.
@@ -25,22 +27,19 @@ fn offer(r: &mut [u8], clock: u32, wide: u32, id: u32, bytes: &[u8])
 }
 
 // A frame from a line: refused by its own tests, else offered to the line's raw channel and to its ISO 15765 channel.
-pub fn frame(mem: &mut [u8], line: u32, wide: u32, id: u32, bytes: &[u8]) -> u32
+pub fn frame(mem: &mut [u8], line: u32, wide: u32, id: u32, bytes: &[u8]) -> Result<(), Refusal>
     requires { T (valid mem.old) }
-    ensures { (rates : List ℕ) → gives result 0 [] mem.new ≡ outcome rates mem.old (framed line wide id bytes.now) }
+    ensures { (rates : List ℕ) → gives (code_of result) 0 [] mem.new ≡ outcome rates mem.old (framed line wide id bytes.now) }
 {
     let index = line as usize;
     if index >= LINES {
-        return codes::ERR_PIN_INVALID;
+        return Err(Refusal::PinInvalid);
     }
-    let code = frame_tests::frame_code(wide, id, bytes);
-    if code != codes::STATUS_NOERROR {
-        return code;
-    }
+    frame_tests::frame_code(wide, id, bytes)?;
     let now = integers::word_at(mem, 0);
     let a = REGIONS + index * places::REGION;
     offer(&mut mem[a..a + places::REGION], now, wide, id, bytes);
     let b = ISO_REGIONS + index * iso_places::REGION;
     iso_frames::frame(&mut mem[b..b + iso_places::REGION], now, wide, id, bytes);
-    codes::STATUS_NOERROR
+    Ok(())
 }

@@ -3,109 +3,66 @@
 #![tactic(auto)]
 
 ghost use Rattle.std.specs.Prelude.{◌≡◌, List, [], ℕ, T};
+ghost use Rattle.codes.specs.Code.{code_of, value_of};
 ghost use Rattle.machine.specs.Channel.{link_open, link_send, link_receive, link_end};
 ghost use Rattle.machine.specs.Step.{call};
 ghost use Rattle.layout.specs.Promise.{gives};
-ghost use Rattle.link_asking.specs.Asking.{asked_of};
+ghost use Rattle.link_asking.specs.Asking.{asks};
 ghost use Rattle.memory.specs.Memory.{valid};
 ghost use Rattle.memory.specs.Promise.{outcome};
 
-use codes::Answer;
+use calling::Listeners;
+use codes::Refusal;
+use link_asking::Asking;
 use places::REGION;
 
 // A connection begins to open.
-pub fn link_open(
-    mem: &mut [u8],
-    channel: u32,
-    own: u32,
-    destination: u32,
-    rx: u32,
-    application: u32,
-    size: u32,
-    t1: u32,
-    t3: u32,
-) -> u32
+pub fn link_open(mem: &mut [u8], channel: u32, asking: Asking) -> Result<(), Refusal>
     requires { T (valid mem.old) }
-    ensures { (rates : List ℕ) → gives result 0 [] mem.new ≡ outcome rates mem.old (call channel (link_open (asked_of own destination rx application size t1 t3))) }
+    ensures { (rates : List ℕ) → gives (code_of result) 0 [] mem.new ≡ outcome rates mem.old (call channel (link_open (asks asking))) }
 {
-    let a = seats::raw_region_of(mem, channel);
-    if a == 0 {
-        return codes::ERR_INVALID_CHANNEL_ID;
-    }
-    if seats::listens(mem, a) {
-        noting::note(mem, a, codes::ERR_NOT_SUPPORTED);
-        return codes::ERR_NOT_SUPPORTED;
-    }
-    let code = linking::open(
-        &mut mem[a..a + REGION],
-        own,
-        destination,
-        rx,
-        application,
-        size,
-        t1,
-        t3,
-    );
-    noting::note(mem, a, code);
-    code
+    calling::on_raw_channel(
+        mem,
+        channel,
+        Listeners::Refuse,
+        |r| linking::open(r, asking),
+    )
 }
 
 // A message to send.
-pub fn link_send(mem: &mut [u8], channel: u32, message: &[u8]) -> u32
+pub fn link_send(mem: &mut [u8], channel: u32, message: &[u8]) -> Result<(), Refusal>
     requires { T (valid mem.old) }
-    ensures { (rates : List ℕ) → gives result 0 [] mem.new ≡ outcome rates mem.old (call channel (link_send message.now)) }
+    ensures { (rates : List ℕ) → gives (code_of result) 0 [] mem.new ≡ outcome rates mem.old (call channel (link_send message.now)) }
 {
-    let a = seats::raw_region_of(mem, channel);
-    if a == 0 {
-        return codes::ERR_INVALID_CHANNEL_ID;
-    }
-    if seats::listens(mem, a) {
-        noting::note(mem, a, codes::ERR_NOT_SUPPORTED);
-        return codes::ERR_NOT_SUPPORTED;
-    }
-    let code = linking::send(&mut mem[a..a + REGION], message);
-    noting::note(mem, a, code);
-    code
+    calling::on_raw_channel(
+        mem,
+        channel,
+        Listeners::Refuse,
+        |r| linking::send(r, message),
+    )
 }
 
 // Moves the complete message to a buffer; its length.
-pub fn link_receive(mem: &mut [u8], channel: u32, buffer: &mut [u8]) -> Answer
+pub fn link_receive(mem: &mut [u8], channel: u32, buffer: &mut [u8]) -> Result<u32, Refusal>
     requires { T (valid mem.old) }
-    ensures { (rates : List ℕ) → gives result.code result.value buffer.new mem.new ≡ outcome rates mem.old (call channel (link_receive buffer.old)) }
+    ensures { (rates : List ℕ) → gives (code_of result) (value_of result) buffer.new mem.new ≡ outcome rates mem.old (call channel (link_receive buffer.old)) }
 {
-    let a = seats::raw_region_of(mem, channel);
-    if a == 0 {
-        return Answer {
-            code: codes::ERR_INVALID_CHANNEL_ID,
-            value: 0,
-        };
+    let Some(at) = seats::raw_seat_of(mem, channel) else {
+        return Err(Refusal::InvalidChannelId);
+    };
+    if seats::listens(mem, at) {
+        noting::note(mem, at, Refusal::NotSupported as u32);
+        return Err(Refusal::NotSupported);
     }
-    if seats::listens(mem, a) {
-        noting::note(mem, a, codes::ERR_NOT_SUPPORTED);
-        return Answer {
-            code: codes::ERR_NOT_SUPPORTED,
-            value: 0,
-        };
-    }
-    let answer = linking::receive(&mut mem[a..a + REGION], buffer);
-    noting::note(mem, a, answer.code);
-    answer
+    let received = linking::receive(&mut mem[at..at + REGION], buffer);
+    noting::note(mem, at, codes::code_of(received));
+    received
 }
 
 // The connection is ended.
-pub fn link_end(mem: &mut [u8], channel: u32) -> u32
+pub fn link_end(mem: &mut [u8], channel: u32) -> Result<(), Refusal>
     requires { T (valid mem.old) }
-    ensures { (rates : List ℕ) → gives result 0 [] mem.new ≡ outcome rates mem.old (call channel link_end) }
+    ensures { (rates : List ℕ) → gives (code_of result) 0 [] mem.new ≡ outcome rates mem.old (call channel link_end) }
 {
-    let a = seats::raw_region_of(mem, channel);
-    if a == 0 {
-        return codes::ERR_INVALID_CHANNEL_ID;
-    }
-    if seats::listens(mem, a) {
-        noting::note(mem, a, codes::ERR_NOT_SUPPORTED);
-        return codes::ERR_NOT_SUPPORTED;
-    }
-    let code = linking::end(&mut mem[a..a + REGION]);
-    noting::note(mem, a, code);
-    code
+    calling::on_raw_channel(mem, channel, Listeners::Refuse, |r| linking::end(r))
 }

@@ -1,5 +1,5 @@
--- A start filter with a third record and one without: the same where the channel is raw, and where the third record is empty. And the code of a call that
--- only looks at an ISO 15765 channel can be noted. Assumes nothing.
+-- A start filter with a third record and one without: the same where the channel is raw, and where the third record is empty. Assumes
+-- nothing.
 use Rattle.std.specs.Prelude.{if◌then◌else◌}
 use mathlib.Core.Path.{◌≡◌, refl, sym, ap, ◌∙◌}
 use Prim.Native.Nat.{ℕ, ◌+◌, ◌-◌, ◌≤◌, ◌<◌}
@@ -20,12 +20,9 @@ use Rattle.layout.specs.Memory.{region}
 use Rattle.layout.specs.Promise.{gives, answered, region_gives, call_outcome}
 use Rattle.iso.specs.Iso.{Iso, shut, ready, on_ready, on_iso_call, iso_noted}
 use Rattle.iso.specs.Step.{iso_step}
-use Rattle.iso_layout.specs.Sizes.{iso_region_size}
-use Rattle.iso_layout.specs.Promise.{iso_outcome}
 use Rattle.whole.specs.Device.{Device, Any, raw, iso, channels, any_at, nameable, touches, speaker, numbered, own_answer, any_step, moved, after, answer_by, answer, step}
 use Rattle.memory.specs.Memory.{valid, load, image}
-use Rattle.memory.specs.Promise.{outcome, IsoSeat}
-use Rattle.memory.proofs.Seats.{iso_ends, iso_lent, iso_noted_law}
+use Rattle.memory.specs.Promise.{outcome}
 
 -- ---- on a raw channel the third record isn't looked at
 
@@ -86,8 +83,3 @@ no_third_record rates m k type mask pattern flow e =
 -- what is lent behind the end of some bytes
 pub nothing_behind : (b : List ℕ) → mid_of (length b) (length b - length b) b ≡ []
 nothing_behind b = ap (take (length b - length b)) (drop_of_length-le b {i = length b} (omega arith)) ∙ take-nil (length b - length b)
-
--- ---- the code of a call that leaves an ISO 15765 channel's region as it is can be noted
-pub iso_looked_noted : (m : List ℕ) (v : T (valid m)) (k base : ℕ) (s : IsoSeat m k base) (rates : List ℕ) (x : Call) (c u : ℕ) (b : List ℕ)
-    → gives c u b (mid_of base (base + iso_region_size - base) m) ≡ iso_outcome rates (load m).clock (mid_of base (base + iso_region_size - base) m) x → (base + iso_region_size ≤ length m) × (c < 256)
-iso_looked_noted m v k base s rates x c u b e = (iso_ends m v k base s, (iso_noted_law m v k base s rates x c u b _ e (iso_lent m v k base s).long).1)

@@ -2,14 +2,15 @@
 #![tactic(auto)]
 
 ghost use Rattle.std.specs.Prelude.{◌≡◌, List, [], ℕ, T};
+ghost use Rattle.codes.specs.Code.{code_of, value_of};
 ghost use Rattle.machine.specs.Channel.{start_filter, start_flow, stop_filter, start_periodic, stop_periodic};
 ghost use Rattle.machine.specs.Step.{call};
 ghost use Rattle.layout.specs.Promise.{gives};
 ghost use Rattle.memory.specs.Memory.{valid};
 ghost use Rattle.memory.specs.Promise.{outcome};
 
-use box_places::ISO_REGIONS;
-use codes::Answer;
+use calling::Listeners;
+use codes::Refusal;
 
 // A filter more, by the smallest free number; the third record is that of an ISO 15765 channel alone.
 pub fn start_flow_filter(
@@ -19,105 +20,77 @@ pub fn start_flow_filter(
     mask: &[u8],
     pattern: &[u8],
     flow: &[u8],
-) -> Answer
+) -> Result<u32, Refusal>
     requires { T (valid mem.old) }
-    ensures { (rates : List ℕ) → gives result.code result.value [] mem.new ≡ outcome rates mem.old (call channel (start_flow kind mask.now pattern.now flow.now)) }
+    ensures { (rates : List ℕ) → gives (code_of result) (value_of result) [] mem.new ≡ outcome rates mem.old (call channel (start_flow kind mask.now pattern.now flow.now)) }
 {
-    let a = seats::region_of(mem, channel);
-    if a == 0 {
-        return Answer {
-            code: codes::ERR_INVALID_CHANNEL_ID,
-            value: 0,
-        };
-    }
-    if a < ISO_REGIONS {
-        let answer = filters::start_filter(&mut mem[a..a + places::REGION], kind, mask, pattern);
-        noting::note(mem, a, answer.code);
-        return answer;
-    }
-    let answer = iso_starting::start_in(
-        &mut mem[a..a + iso_places::REGION],
-        kind,
-        mask,
-        pattern,
-        flow,
-    );
-    iso_settings::note(mem, a, answer.code);
-    answer
+    calling::on_channel(
+        mem,
+        channel,
+        Listeners::Serve,
+        |r| filters::start_filter(r, kind, mask, pattern),
+        |r| iso_starting::start_in(r, kind, mask, pattern, flow),
+    )
 }
 
 // A filter more, where no third record is lent.
-pub fn start_filter(mem: &mut [u8], channel: u32, kind: u32, mask: &[u8], pattern: &[u8]) -> Answer
+pub fn start_filter(
+    mem: &mut [u8],
+    channel: u32,
+    kind: u32,
+    mask: &[u8],
+    pattern: &[u8],
+) -> Result<u32, Refusal>
     requires { T (valid mem.old) }
-    ensures { (rates : List ℕ) → gives result.code result.value [] mem.new ≡ outcome rates mem.old (call channel (start_filter kind mask.now pattern.now)) }
+    ensures { (rates : List ℕ) → gives (code_of result) (value_of result) [] mem.new ≡ outcome rates mem.old (call channel (start_filter kind mask.now pattern.now)) }
 {
     let none = mask.len();
     start_flow_filter(mem, channel, kind, mask, pattern, &mask[none..])
 }
 
 // A filter less.
-pub fn stop_filter(mem: &mut [u8], channel: u32, number: u32) -> u32
+pub fn stop_filter(mem: &mut [u8], channel: u32, number: u32) -> Result<(), Refusal>
     requires { T (valid mem.old) }
-    ensures { (rates : List ℕ) → gives result 0 [] mem.new ≡ outcome rates mem.old (call channel (stop_filter number)) }
+    ensures { (rates : List ℕ) → gives (code_of result) 0 [] mem.new ≡ outcome rates mem.old (call channel (stop_filter number)) }
 {
-    let a = seats::region_of(mem, channel);
-    if a == 0 {
-        return codes::ERR_INVALID_CHANNEL_ID;
-    }
-    if a < ISO_REGIONS {
-        let code = filters::stop_filter(&mut mem[a..a + places::REGION], number);
-        noting::note(mem, a, code);
-        return code;
-    }
-    let code = iso_clearing::stop_in(&mut mem[a..a + iso_places::REGION], number);
-    iso_settings::note(mem, a, code);
-    code
+    calling::on_channel(
+        mem,
+        channel,
+        Listeners::Serve,
+        |r| filters::stop_filter(r, number),
+        |r| iso_clearing::stop_in(r, number),
+    )
 }
 
 // A periodic more, by the smallest free number; it is pending at once. A listener and an ISO 15765 channel have none.
-pub fn start_periodic(mem: &mut [u8], channel: u32, message: &[u8], interval: u32) -> Answer
+pub fn start_periodic(
+    mem: &mut [u8],
+    channel: u32,
+    message: &[u8],
+    interval: u32,
+) -> Result<u32, Refusal>
     requires { T (valid mem.old) }
-    ensures { (rates : List ℕ) → gives result.code result.value [] mem.new ≡ outcome rates mem.old (call channel (start_periodic message.now interval)) }
+    ensures { (rates : List ℕ) → gives (code_of result) (value_of result) [] mem.new ≡ outcome rates mem.old (call channel (start_periodic message.now interval)) }
 {
-    let a = seats::region_of(mem, channel);
-    if a == 0 {
-        return Answer {
-            code: codes::ERR_INVALID_CHANNEL_ID,
-            value: 0,
-        };
-    }
-    if a < ISO_REGIONS {
-        if seats::listens(mem, a) {
-            noting::note(mem, a, codes::ERR_NOT_SUPPORTED);
-            return Answer {
-                code: codes::ERR_NOT_SUPPORTED,
-                value: 0,
-            };
-        }
-        let answer = periodics::start_periodic(&mut mem[a..a + places::REGION], message, interval);
-        noting::note(mem, a, answer.code);
-        return answer;
-    }
-    let code = iso_periodics::start_in(message);
-    iso_settings::note(mem, a, code);
-    Answer { code, value: 0 }
+    calling::on_channel(
+        mem,
+        channel,
+        Listeners::Refuse,
+        |r| periodics::start_periodic(r, message, interval),
+        |_| Err(iso_periodics::start_in(message)),
+    )
 }
 
 // A periodic less. An ISO 15765 channel has none.
-pub fn stop_periodic(mem: &mut [u8], channel: u32, number: u32) -> u32
+pub fn stop_periodic(mem: &mut [u8], channel: u32, number: u32) -> Result<(), Refusal>
     requires { T (valid mem.old) }
-    ensures { (rates : List ℕ) → gives result 0 [] mem.new ≡ outcome rates mem.old (call channel (stop_periodic number)) }
+    ensures { (rates : List ℕ) → gives (code_of result) 0 [] mem.new ≡ outcome rates mem.old (call channel (stop_periodic number)) }
 {
-    let a = seats::region_of(mem, channel);
-    if a == 0 {
-        return codes::ERR_INVALID_CHANNEL_ID;
-    }
-    if a < ISO_REGIONS {
-        let code = periodics::stop_periodic(&mut mem[a..a + places::REGION], number);
-        noting::note(mem, a, code);
-        return code;
-    }
-    let refused = iso_periodics::stop_in();
-    iso_settings::note(mem, a, refused);
-    refused
+    calling::on_channel(
+        mem,
+        channel,
+        Listeners::Serve,
+        |r| periodics::stop_periodic(r, number),
+        |_| Err(iso_periodics::stop_in()),
+    )
 }

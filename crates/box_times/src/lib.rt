@@ -4,6 +4,7 @@
 ghost use Rattle.std.specs.Prelude.{◌≡◌, List, [], map, ℕ, ◌+◌, ◌*◌, ◌%◌, ◌≤◌, T, length};
 ghost use Rattle.codec.specs.Word.{word, word_at};
 ghost use Rattle.codec.specs.Code.{many};
+ghost use Rattle.codes.specs.Code.{code_of};
 ghost use Rattle.machine.specs.Limits.{lines, most_advance};
 ghost use Rattle.machine.specs.Channel.{on_advance};
 ghost use Rattle.machine.specs.Step.{advance as advances};
@@ -18,6 +19,7 @@ ghost use Rattle.memory.specs.Promise.{outcome};
 
 use box_places::{BOX, ISO_REGIONS};
 use clock::Clock;
+use codes::Refusal;
 use places::{LINES, NUMBER, REGIONS};
 
 // The longest advance in microseconds.
@@ -28,11 +30,9 @@ fn advance_raws(s: &mut [u8], us: u32)
     requires { (length s.old ≡ lines * region_size) × T ((many lines region).valid s.old) × (us ≤ most_advance) }
     ensures { s.new ≡ (many lines region).put (map (on_advance us) ((many lines region).get s.old)) }
 {
-    let mut i = 0;
-    while i < LINES {
+    for i in 0..LINES {
         let a = i * places::REGION;
         timers::later(&mut s[a..a + places::REGION], us);
-        i += 1;
     }
 }
 
@@ -41,11 +41,9 @@ fn advance_isos(s: &mut [u8], us: u32)
     requires { (length s.old ≡ lines * iso_region_size) × T ((many lines iso_region).valid s.old) × (us ≤ most_advance) }
     ensures { s.new ≡ (many lines iso_region).put (map (on_iso_advance us) ((many lines iso_region).get s.old)) }
 {
-    let mut i = 0;
-    while i < LINES {
+    for i in 0..LINES {
         let a = i * iso_places::REGION;
         iso_timers::later(&mut s[a..a + iso_places::REGION], us);
-        i += 1;
     }
 }
 
@@ -59,15 +57,15 @@ fn advance_clock(c: &mut [u8], us: u32)
 }
 
 // Time goes on, for the clock and every channel.
-pub fn advance(mem: &mut [u8], us: u32) -> u32
+pub fn advance(mem: &mut [u8], us: u32) -> Result<(), Refusal>
     requires { T (valid mem.old) }
-    ensures { (rates : List ℕ) → gives result 0 [] mem.new ≡ outcome rates mem.old (advances us) }
+    ensures { (rates : List ℕ) → gives (code_of result) 0 [] mem.new ≡ outcome rates mem.old (advances us) }
 {
     if us > MOST_ADVANCE {
-        return codes::ERR_INVALID_TIME_INTERVAL;
+        return Err(Refusal::InvalidTimeInterval);
     }
     advance_raws(&mut mem[REGIONS..ISO_REGIONS], us);
     advance_isos(&mut mem[ISO_REGIONS..BOX], us);
     advance_clock(&mut mem[0..NUMBER], us);
-    codes::STATUS_NOERROR
+    Ok(())
 }

@@ -9,8 +9,10 @@ ghost use Rattle.layout.specs.Memory.{region};
 ghost use Rattle.iso_layout.specs.Region.{iso_region};
 ghost use Rattle.memory.specs.Sizes.{isos_at, box_size};
 ghost use Rattle.memory.specs.Memory.{valid as is_valid};
+ghost use Rattle.box_validity.specs.Checked.{Checked};
 
 use box_places::{BOX, ISO_REGIONS};
+use codes::Refusal;
 
 // Are the four raw regions valid?
 fn raw_rows(mem: &[u8]) -> bool
@@ -18,12 +20,10 @@ fn raw_rows(mem: &[u8]) -> bool
     ensures { result ≡ valid_all region lines (drop number_size mem.now) }
 {
     let mut good = true;
-    let mut i = 0;
-    while i < places::LINES {
+    for i in 0..places::LINES {
         let a = places::REGIONS + i * places::REGION;
         let e = a + places::REGION;
         good = good & validity::region_valid(&mem[a..e]);
-        i += 1;
     }
     good
 }
@@ -34,12 +34,10 @@ fn iso_rows(mem: &[u8]) -> bool
     ensures { result ≡ valid_all iso_region lines (drop isos_at mem.now) }
 {
     let mut good = true;
-    let mut i = 0;
-    while i < places::LINES {
+    for i in 0..places::LINES {
         let a = ISO_REGIONS + i * iso_places::REGION;
         let e = a + iso_places::REGION;
         good = good & iso_validity::iso_region(&mem[a..e]);
-        i += 1;
     }
     good
 }
@@ -52,4 +50,14 @@ pub fn valid(mem: &[u8]) -> bool
         return false;
     }
     raw_rows(mem) & iso_rows(mem)
+}
+
+// What a call on these bytes is refused for where they are no memory of the whole box.
+pub fn check(mem: &[u8]) -> Result<(), Refusal>
+    ensures { Checked mem.now result }
+{
+    if !valid(mem) {
+        return Err(Refusal::InvalidDeviceId);
+    }
+    Ok(())
 }

@@ -2,123 +2,86 @@
 #![tactic(auto)]
 
 ghost use Rattle.events.specs.Found.{ReadsArguments};
+ghost use Rattle.reader.specs.Cursor.{behind};
 
-use event_parts::{Pair, Part};
-use events::{Event, Found, Giving, Plain};
-use number::Number;
+use events::{Event, Giving, Plain};
+use reader::Reader;
 
 // The arguments of a write.
-pub fn write(recording: &[u8], at: usize) -> Found
-    ensures { ReadsArguments 10 recording.now at result }
+pub fn write(r: &mut Reader) -> Option<Event>
+    ensures { ReadsArguments 10 r.old.recording.now r.old.at (behind result r.new.at) }
 {
-    let Pair::Two(channel, n, from) = event_parts::two(recording, at) else {
-        return Found::Bad;
-    };
+    let channel = r.next_number()?;
+    let n = event_parts::at_most64(r)?;
     let size = recording_sizes::record_on(channel);
-    let Part::Ends(end) = event_parts::part_end(recording, from, n, size) else {
-        return Found::Bad;
-    };
-    Found::Good(
-        Event::Write {
-            channel,
-            n,
-            from,
-            end,
-        },
+    let (from, end) = r.next_bytes(size * n as usize)?;
+    Some(Event::Write {
+        channel,
+        n,
+        from,
         end,
-    )
+    })
 }
 
 // The arguments of a bus frame.
-pub fn frame(recording: &[u8], at: usize) -> Found
-    ensures { ReadsArguments 5 recording.now at result }
+pub fn frame(r: &mut Reader) -> Option<Event>
+    ensures { ReadsArguments 5 r.old.recording.now r.old.at (behind result r.new.at) }
 {
-    let Pair::Two(line, wide, half) = event_parts::two(recording, at) else {
-        return Found::Bad;
-    };
-    let Pair::Two(id, n, from) = event_parts::two(recording, half) else {
-        return Found::Bad;
-    };
-    let Part::Ends(end) = event_parts::part_end(recording, from, n, 1) else {
-        return Found::Bad;
-    };
-    Found::Good(
-        Event::Code(Plain::Frame {
-            line,
-            wide,
-            id,
-            from,
-            end,
-        }),
+    let line = r.next_number()?;
+    let wide = r.next_number()?;
+    let id = r.next_number()?;
+    let n = event_parts::at_most64(r)?;
+    let (from, end) = r.next_bytes(n as usize)?;
+    Some(Event::Code(Plain::Frame {
+        line,
+        wide,
+        id,
+        from,
         end,
-    )
+    }))
 }
 
 // The arguments of a start of a filter: a mask and a pattern, and on channels 5 to 8 a flow.
-pub fn filter(recording: &[u8], at: usize) -> Found
-    ensures { ReadsArguments 6 recording.now at result }
+pub fn filter(r: &mut Reader) -> Option<Event>
+    ensures { ReadsArguments 6 r.old.recording.now r.old.at (behind result r.new.at) }
 {
-    let Pair::Two(channel, kind, mask) = event_parts::two(recording, at) else {
-        return Found::Bad;
-    };
+    let channel = r.next_number()?;
+    let kind = r.next_number()?;
     let size = recording_sizes::record_on(channel);
-    let Part::Ends(flow) = event_parts::part_end(recording, mask, 2, size) else {
-        return Found::Bad;
-    };
-    let pattern = mask + size;
+    let (mask, pattern) = r.next_bytes(size)?;
+    let (_, flow) = r.next_bytes(size)?;
     if !recording_sizes::on_iso(channel) {
-        let start = Giving::StartFilter {
+        return Some(Event::Number(Giving::StartFilter {
             channel,
             kind,
             mask,
             pattern,
             end: flow,
-        };
-        return Found::Good(Event::Number(start), flow);
+        }));
     }
-    let Part::Ends(end) = event_parts::part_end(recording, flow, 1, size) else {
-        return Found::Bad;
-    };
-    let start = Giving::StartFlow {
+    let (_, end) = r.next_bytes(size)?;
+    Some(Event::Number(Giving::StartFlow {
         channel,
         kind,
         mask,
         pattern,
         flow,
         end,
-    };
-    Found::Good(Event::Number(start), end)
+    }))
 }
 
 // The arguments of a start of a periodic.
-pub fn periodic(recording: &[u8], at: usize) -> Found
-    ensures { ReadsArguments 8 recording.now at result }
+pub fn periodic(r: &mut Reader) -> Option<Event>
+    ensures { ReadsArguments 8 r.old.recording.now r.old.at (behind result r.new.at) }
 {
-    let Number::Value {
-        value: channel,
-        next: from,
-    } = reader::read_number(recording, at)
-    else {
-        return Found::Bad;
-    };
+    let channel = r.next_number()?;
     let size = recording_sizes::record_on(channel);
-    let Part::Ends(end) = event_parts::part_end(recording, from, 1, size) else {
-        return Found::Bad;
-    };
-    let Number::Value {
-        value: interval,
-        next,
-    } = reader::read_number(recording, end)
-    else {
-        return Found::Bad;
-    };
-    Found::Good(
-        Event::Number(Giving::StartPeriodic {
-            channel,
-            from,
-            end,
-            interval,
-        }),
-        next,
-    )
+    let (from, end) = r.next_bytes(size)?;
+    let interval = r.next_number()?;
+    Some(Event::Number(Giving::StartPeriodic {
+        channel,
+        from,
+        end,
+        interval,
+    }))
 }

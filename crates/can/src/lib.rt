@@ -72,11 +72,5 @@ pub fn is_known_rate(rate: u32) -> bool
 pub fn is_rate(rates: &[u32], rate: u32) -> bool
     ensures { result ≡ member rate rates.now }
 {
-    let mut found = false;
-    let mut i = 0;
-    while i < rates.len() {
-        found = found | (rate == rates[i]);
-        i += 1;
-    }
-    found
+    rates.contains(&rate)
 }

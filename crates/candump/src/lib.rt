@@ -1,6 +1,8 @@
 // The numbers of a candump log, each said once: the marks of a line, how many digits its parts have, and why a line stops an import.
 #![tactic(auto)]
 
+use std::fmt;
+
 // `(`, `.`, `)`, a blank, `#`, the end of a line, and the digit 0.
 pub const OPENS: u8 = 40;
 
@@ -36,12 +38,26 @@ pub const SECOND: u64 = 1000000;
 pub const LATEST: u64 = 4000000000 * SECOND;
 
 // Why a line stops an import: it is malformed, its name is unknown, its time goes back or lies before the start, it doesn't fit.
-pub const GOES_ON: u32 = 0;
+#[derive(Clone, Copy)]
+pub enum Stop {
+    Malformed,
+    Unknown,
+    GoesBack,
+    NoRoom,
+}
 
-pub const MALFORMED: u32 = 1;
-
-pub const UNKNOWN: u32 = 2;
-
-pub const GOES_BACK: u32 = 3;
-
-pub const NO_ROOM: u32 = 4;
+impl fmt::Display for Stop {
+    fn fmt<W: fmt::Write>(&self, f: &mut fmt::Formatter<W>) -> fmt::Result {
+        match self {
+            Stop::Malformed => {
+                write!(
+                    f,
+                    "malformed, it is not written as (1436509052.249713) can0 044#2A366C2B"
+                )
+            }
+            Stop::Unknown => write!(f, "unknown name, only can0 to can3 are lines"),
+            Stop::GoesBack => write!(f, "its time goes back, or lies before the start"),
+            Stop::NoRoom => write!(f, "it would take the recording past 32768 bytes"),
+        }
+    }
+}

@@ -3,14 +3,13 @@ use std::io;
 
 // The first place at which two slices differ, or the shorter one's end.
 fn place(a: &[u8], b: &[u8]) -> usize {
-    let mut i = 0;
-    while i < a.len() && i < b.len() {
+    let shorter = a.len().min(b.len());
+    for i in 0..shorter {
         if a[i] != b[i] {
             return i;
         }
-        i += 1;
     }
-    i
+    shorter
 }
 
 // A byte in hexadecimal.

@@ -8,14 +8,12 @@ const PATH: usize = 64;
 // Puts bytes into a path from a place on, as many as fit, and says where they end.
 fn put(path: &mut [u8], at: usize, bytes: &[u8]) -> usize {
     let mut end = at;
-    let mut i = 0;
-    while i < bytes.len() {
+    for byte in bytes {
         if end >= path.len() {
             return end;
         }
-        path[end] = bytes[i];
+        path[end] = *byte;
         end += 1;
-        i += 1;
     }
     end
 }

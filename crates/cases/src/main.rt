@@ -19,11 +19,11 @@ const ANSWERS: usize = 65536 + recording_sizes::EVENT_ROOM;
 fn replay(mem: &mut [u8], recording: &[u8], out: &mut [u8]) -> usize {
     let mut at = 0;
     let mut length = 0;
+    // each piece says where the next begins, which no `for` counts
     while at < recording.len() {
-        let played = recording::play_on(mem, recording, at, &mut out[length..]);
-        if played.code != codes::STATUS_NOERROR {
+        let Ok(played) = recording::play_on(mem, recording, at, &mut out[length..]) else {
             return length;
-        }
+        };
         at = played.at;
         length += played.length;
     }
@@ -78,14 +78,12 @@ fn name_end(names: &[u8], at: usize) -> usize
     requires { at ≤ length names.now }
     ensures { (at ≤ result) × (result ≤ length names.now) }
 {
-    let mut end = at;
-    while end < names.len() {
+    for end in at..names.len() {
         if names[end] == b' ' {
             return end;
         }
-        end += 1;
     }
-    end
+    names.len()
 }
 
 // Runs the cases whose names stand in a row with a space between them, and counts them; or says why it could not write.
@@ -93,6 +91,7 @@ fn run(rt: &(impl Files + Print + Eprint), names: &[u8]) -> io::Result<()> {
     let mut cases = 0;
     let mut agree = 0;
     let mut at = 0;
+    // each name says where the next begins, which no `for` counts
     while at < names.len() {
         let end = name_end(names, at);
         if agrees(rt, &names[at..end])? {

@@ -7,9 +7,11 @@ ghost use Rattle.telegram.specs.Bits.{bit};
 ghost use Rattle.telegram.specs.Telegram.{read_channel, channel as travels};
 ghost use Rattle.telegram_types.specs.Face.{told, answering};
 
-use codes::STATUS_NOERROR;
+use codes::Refusal;
 use telegram_answers::{carried, only_if, plain, refused};
-use telegram_types::{Answer, OnChannel, Taken, Telegram};
+use telegram_types::{
+    Answer, BREAK, CONNECTION_ACKNOWLEDGE, DISCONNECT, OnChannel, TEST, Telegram,
+};
 
 // The bit of the byte that is worth `worth`.
 fn is_set(byte: u8, worth: u8) -> bool
@@ -20,7 +22,7 @@ fn is_set(byte: u8, worth: u8) -> bool
 }
 
 // Data.
-fn data(bytes: &[u8]) -> Answer
+fn data(bytes: &[u8]) -> Result<Answer, Refusal>
     requires { (0 < length bytes.now) × (get_or bytes.now 0 0 ≤ 0x3F) }
     ensures { told result ≡ answering (map travels (read_channel bytes.now)) }
 {
@@ -29,20 +31,19 @@ fn data(bytes: &[u8]) -> Answer
     }
     let first = bytes[0];
     let payload = carried(bytes, 1);
-    Answer {
-        code: STATUS_NOERROR,
-        taken: Taken::Yes(Telegram::Channel(OnChannel::Data {
+    Ok(Answer {
+        telegram: Telegram::Channel(OnChannel::Data {
             asks: !is_set(first, 0x20),
             last: is_set(first, 0x10),
             sn: first % 16,
-        })),
+        }),
         payload,
         len: bytes.len() - 1,
-    }
+    })
 }
 
 // A connection set-up or acknowledge.
-fn connection(bytes: &[u8]) -> Answer
+fn connection(bytes: &[u8]) -> Result<Answer, Refusal>
     requires { (0 < length bytes.now) × (get_or bytes.now 0 0 / 2 ≡ 0x50) }
     ensures { told result ≡ answering (map travels (read_channel bytes.now)) }
 {
@@ -50,7 +51,7 @@ fn connection(bytes: &[u8]) -> Answer
         return refused();
     }
     let block_size = bytes[1];
-    let ack = bytes[0] == 0xA1;
+    let ack = bytes[0] == CONNECTION_ACKNOWLEDGE;
     let t1 = bytes[2];
     let t2 = bytes[3];
     let t3 = bytes[4];
@@ -69,7 +70,7 @@ fn connection(bytes: &[u8]) -> Answer
 }
 
 // A telegram of one byte.
-fn alone(first: u8) -> Answer
+fn alone(first: u8) -> Result<Answer, Refusal>
     requires { (0x3F < first) × (first / 2 ≡ 0x50 → ⊥) }
     ensures { told result ≡ answering (map travels (read_channel (first ∷ []))) }
 {
@@ -81,15 +82,15 @@ fn alone(first: u8) -> Answer
         }));
     }
     match first {
-        0xA3 => plain(Telegram::Channel(OnChannel::Test)),
-        0xA4 => plain(Telegram::Channel(OnChannel::Break)),
-        0xA8 => plain(Telegram::Channel(OnChannel::Disconnect)),
+        TEST => plain(Telegram::Channel(OnChannel::Test)),
+        BREAK => plain(Telegram::Channel(OnChannel::Break)),
+        DISCONNECT => plain(Telegram::Channel(OnChannel::Disconnect)),
         _ => refused(),
     }
 }
 
 // A telegram on a channel: the first byte decides.
-pub fn channel(bytes: &[u8]) -> Answer
+pub fn channel(bytes: &[u8]) -> Result<Answer, Refusal>
     ensures { told result ≡ answering (map travels (read_channel bytes.now)) }
 {
     if bytes.len() < 1 {

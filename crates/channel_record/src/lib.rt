@@ -1,4 +1,4 @@
-// The telegram on a channel that a record says: the fields that its kind has, compared as whole numbers before they are narrowed.
+// The telegram on a channel that a record says: the fields that its kind has, where each is narrow enough.
 #![tactic(auto)]
 
 ghost use Rattle.std.specs.Prelude.{◌≡◌, List, ℕ, ◌≤◌, length};
@@ -6,98 +6,93 @@ ghost use Rattle.std.proofs.Math.Option.{some};
 ghost use Rattle.telegram_types.specs.Face.{taken_said};
 ghost use Rattle.telegram_record.specs.Record.{kept, carried_in, data_in, acknowledge_in, connection_in, alone_in, channel_in};
 
-use integers::{low, word_at};
-use telegram_record::only_if;
-use telegram_types::{OnChannel, Taken, Telegram};
+use integers::word_at;
+use telegram_record::byte_at;
+use telegram_types::{
+    ACKNOWLEDGE, BREAK, CONNECTION, CONNECTION_ACKNOWLEDGE, DATA, DISCONNECT, OnChannel, TEST,
+    Telegram,
+};
 
 // Data.
-fn data(bytes: &[u8]) -> Taken
+fn data(bytes: &[u8]) -> Option<Telegram>
     requires { 32 ≤ length bytes.now }
     ensures { kept (taken_said result (carried_in bytes.now)) ≡ kept (data_in bytes.now) }
 {
     let asks = word_at(bytes, 4);
     let last = word_at(bytes, 8);
-    let sn = word_at(bytes, 12);
+    let sn = byte_at(bytes, 12)?;
     let known = (asks <= 1) & ((last <= 1) & (bytes[24] <= 7));
-    only_if(
-        known & (sn <= 0xFF),
-        Telegram::Channel(OnChannel::Data {
-            asks: asks == 1,
-            last: last == 1,
-            sn: low(sn),
-        }),
-    )
+    known.then_some(Telegram::Channel(OnChannel::Data {
+        asks: asks == 1,
+        last: last == 1,
+        sn,
+    }))
 }
 
 // An acknowledge.
-fn acknowledge(bytes: &[u8]) -> Taken
+fn acknowledge(bytes: &[u8]) -> Option<Telegram>
     requires { 32 ≤ length bytes.now }
     ensures { kept (taken_said result (carried_in bytes.now)) ≡ kept (acknowledge_in bytes.now) }
 {
     let ready = word_at(bytes, 4);
-    let sn = word_at(bytes, 8);
-    only_if(
-        (ready <= 1) & (sn <= 0xFF),
-        Telegram::Channel(OnChannel::Acknowledge {
-            ready: ready == 1,
-            sn: low(sn),
-        }),
-    )
+    let sn = byte_at(bytes, 8)?;
+    let known = ready <= 1;
+    known.then_some(Telegram::Channel(OnChannel::Acknowledge {
+        ready: ready == 1,
+        sn,
+    }))
 }
 
 // A connection set-up or acknowledge.
-fn connection(bytes: &[u8]) -> Taken
+fn connection(bytes: &[u8]) -> Option<Telegram>
     requires { 32 ≤ length bytes.now }
     ensures { kept (taken_said result (carried_in bytes.now)) ≡ kept (some (connection_in bytes.now)) }
 {
     let kind = word_at(bytes, 0);
-    let block_size = word_at(bytes, 4);
-    let t1 = word_at(bytes, 8);
-    let t2 = word_at(bytes, 12);
-    let t3 = word_at(bytes, 16);
-    let t4 = word_at(bytes, 20);
-    only_if(
-        (block_size <= 0xFF) & ((t1 <= 0xFF) & ((t2 <= 0xFF) & ((t3 <= 0xFF) & (t4 <= 0xFF)))),
-        Telegram::Channel(OnChannel::Connection {
-            ack: kind == 0xA1,
-            block_size: low(block_size),
-            t1: low(t1),
-            t2: low(t2),
-            t3: low(t3),
-            t4: low(t4),
-        }),
-    )
+    let block_size = byte_at(bytes, 4)?;
+    let t1 = byte_at(bytes, 8)?;
+    let t2 = byte_at(bytes, 12)?;
+    let t3 = byte_at(bytes, 16)?;
+    let t4 = byte_at(bytes, 20)?;
+    Some(Telegram::Channel(OnChannel::Connection {
+        ack: kind == CONNECTION_ACKNOWLEDGE as u32,
+        block_size,
+        t1,
+        t2,
+        t3,
+        t4,
+    }))
 }
 
 // A telegram of no fields, by its kind.
-fn alone(kind: u32) -> Taken
+fn alone(kind: u32) -> Option<Telegram>
     ensures { (bytes : List ℕ) → taken_said result bytes ≡ alone_in kind }
 {
-    if kind == 0xA3 {
-        return Taken::Yes(Telegram::Channel(OnChannel::Test));
+    if kind == TEST as u32 {
+        return Some(Telegram::Channel(OnChannel::Test));
     }
-    if kind == 0xA4 {
-        return Taken::Yes(Telegram::Channel(OnChannel::Break));
+    if kind == BREAK as u32 {
+        return Some(Telegram::Channel(OnChannel::Break));
     }
-    if kind == 0xA8 {
-        return Taken::Yes(Telegram::Channel(OnChannel::Disconnect));
+    if kind == DISCONNECT as u32 {
+        return Some(Telegram::Channel(OnChannel::Disconnect));
     }
-    Taken::No
+    None
 }
 
 // A telegram on a channel.
-pub fn channel(bytes: &[u8]) -> Taken
+pub fn channel(bytes: &[u8]) -> Option<Telegram>
     requires { 32 ≤ length bytes.now }
     ensures { kept (taken_said result (carried_in bytes.now)) ≡ kept (channel_in bytes.now) }
 {
     let kind = word_at(bytes, 0);
-    if kind == 0x00 {
+    if kind == DATA as u32 {
         return data(bytes);
     }
-    if kind == 0x90 {
+    if kind == ACKNOWLEDGE as u32 {
         return acknowledge(bytes);
     }
-    if (kind == 0xA0) | (kind == 0xA1) {
+    if (kind == CONNECTION as u32) | (kind == CONNECTION_ACKNOWLEDGE as u32) {
         return connection(bytes);
     }
     alone(kind)

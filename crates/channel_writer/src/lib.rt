@@ -5,11 +5,12 @@ ghost use Rattle.std.specs.Prelude.{◌≡◌, ◌≤◌, length};
 ghost use Rattle.telegram.specs.Telegram.{data_telegram, acknowledge as acknowledgement, connection as connection_telegram, fits, on_wire};
 ghost use Rattle.telegram_types.specs.Face.{wrote, written_if, channel_said};
 
+use codes::Refusal;
 use telegram_bytes::{all, both, one, refused};
-use telegram_types::{OnChannel, Written};
+use telegram_types::{BREAK, CONNECTION, DISCONNECT, OnChannel, TEST};
 
 // Data: AR is 0 where they ask for an acknowledgement.
-fn data(asks: bool, last: bool, sn: u8, bytes: &[u8], buf: &mut [u8]) -> Written
+fn data(asks: bool, last: bool, sn: u8, bytes: &[u8], buf: &mut [u8]) -> Result<usize, Refusal>
     requires { 8 ≤ length buf.old }
     ensures { wrote result buf.new ≡ written_if (fits (data_telegram asks last sn bytes.now)) (on_wire (data_telegram asks last sn bytes.now)) buf.old }
 {
@@ -26,7 +27,7 @@ fn data(asks: bool, last: bool, sn: u8, bytes: &[u8], buf: &mut [u8]) -> Written
 }
 
 // An acknowledge: RS is 1 where the receiver is ready.
-fn acknowledge(ready: bool, sn: u8, buf: &mut [u8]) -> Written
+fn acknowledge(ready: bool, sn: u8, buf: &mut [u8]) -> Result<usize, Refusal>
     requires { 8 ≤ length buf.old }
     ensures { wrote result buf.new ≡ written_if (fits (acknowledgement ready sn)) (on_wire (acknowledgement ready sn)) buf.old }
 {
@@ -40,12 +41,20 @@ fn acknowledge(ready: bool, sn: u8, buf: &mut [u8]) -> Written
 }
 
 // A connection set-up or acknowledge.
-fn connection(ack: bool, block_size: u8, t1: u8, t2: u8, t3: u8, t4: u8, buf: &mut [u8]) -> Written
+fn connection(
+    ack: bool,
+    block_size: u8,
+    t1: u8,
+    t2: u8,
+    t3: u8,
+    t4: u8,
+    buf: &mut [u8],
+) -> Result<usize, Refusal>
     requires { 8 ≤ length buf.old }
     ensures { wrote result buf.new ≡ written_if (fits (connection_telegram ack block_size t1 t2 t3 t4)) (on_wire (connection_telegram ack block_size t1 t2 t3 t4)) buf.old }
 {
     let bytes = [
-        0xA0 + telegram_fields::bit_value(ack),
+        CONNECTION + telegram_fields::bit_value(ack),
         block_size,
         t1,
         t2,
@@ -56,7 +65,7 @@ fn connection(ack: bool, block_size: u8, t1: u8, t2: u8, t3: u8, t4: u8, buf: &m
 }
 
 // A telegram on a channel.
-pub fn channel(t: OnChannel, bytes: &[u8], buf: &mut [u8]) -> Written
+pub fn channel(t: OnChannel, bytes: &[u8], buf: &mut [u8]) -> Result<usize, Refusal>
     requires { 8 ≤ length buf.old }
     ensures { wrote result buf.new ≡ written_if (fits (channel_said t bytes.now)) (on_wire (channel_said t bytes.now)) buf.old }
 {
@@ -71,8 +80,8 @@ pub fn channel(t: OnChannel, bytes: &[u8], buf: &mut [u8]) -> Written
             t3,
             t4,
         } => connection(ack, block_size, t1, t2, t3, t4, buf),
-        OnChannel::Test => one(0xA3, buf),
-        OnChannel::Break => one(0xA4, buf),
-        OnChannel::Disconnect => one(0xA8, buf),
+        OnChannel::Test => one(TEST, buf),
+        OnChannel::Break => one(BREAK, buf),
+        OnChannel::Disconnect => one(DISCONNECT, buf),
     }
 }

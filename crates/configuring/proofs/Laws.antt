@@ -17,7 +17,7 @@ use Rattle.codec.proofs.Lawful.{ok_word}
 use Rattle.codec.proofs.Word.{word_back}
 use Rattle.machine.specs.Channel.{Config, get_in, set_in}
 use Rattle.layout.specs.Sizes.{config_size, number_size}
-use Rattle.layout.specs.Memory.{config, config_fits}
+use Rattle.layout.specs.Memory.{config}
 use Rattle.layout.proofs.Memory.{config_lawful}
 use Rattle.layout.proofs.Sizes.{config_size_law}
 

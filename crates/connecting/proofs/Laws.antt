@@ -1,19 +1,18 @@
 -- What connecting and disconnecting do to the bytes of a region is what the machine does to the channel. Assumes nothing.
 use mathlib.Core.Path.{◌≡◌, refl, sym, ap, ◌∙◌}
-use Prim.Native.Nat.{ℕ, zero, suc, ◌+◌, ◌-◌}
+use Prim.Native.Nat.{ℕ, zero, suc, ◌+◌}
 use native.Mathlib.Omega.{arith}
 use mathlib.Core.Bool.{Bool, true, false, not}
 use mathlib.Core.List.{List, [], ◌∷◌, ◌++◌}
-use lib.ListN.{length, get_or, set, drop}
+use lib.ListN.{length, get_or, drop}
 use lib.Dec.{T, eqb}
 use borrow.Author.Tests.{eq-eqb, ne_eqb}
-use borrow.Rule.Slice.PartMut.{put_mid}
 use Rattle.codec.specs.Plain.{member, zeros}
 use Rattle.codec.specs.Word.{word}
 use Rattle.codec.specs.Code.{via, slot, get_slot}
 use Rattle.machine.specs.Codes.{code_of}
 use Rattle.machine.specs.Channel.{Chan, closed, Outcome, says, unless, done_with, is_raw_flags, is_open, connect_code, fresh, on_connect, on_open, disconnect}
-use Rattle.layout.specs.Sizes.{region_size, flags_at, rate_at, loopback_at, number_size}
+use Rattle.layout.specs.Sizes.{region_size, loopback_at}
 use Rattle.layout.specs.Memory.{open_part, chan_back, region}
 use Rattle.layout.specs.Promise.{gives, Opened, region_gives, call_outcome}
 use Rattle.layout.proofs.Memory.{region_lawful}
@@ -96,20 +95,15 @@ module _ (m : List ℕ) (h : length m ≡ region_size) (v : T (region.valid m)) 
       ap (λ (x : List ℕ). gives 0x14 0 [] x) (sym again)
       ∙ sym (ap (λ (k : ℕ). region_gives (unless k (region.get m) [] (done_with (fresh f r) (line + 1)))) k ∙ ap region_gives (unless_code 0x14 (region.get m) [] _ (λ z. omega arith)))
 
-  -- the mark, the flags and the rate stored over zeros
-  stored : set (put_mid rate_at number_size (put_mid flags_at number_size (zeros region_size) (word f)) (word r)) 0 1 ≡ 1 ∷ (word f ++ (word r ++ zeros (region_size - loopback_at)))
-  unfolding word
-  stored = refl
-
-  pub connect_fresh : 0 ≡ connect_code rates p f r [] → get_or m 0 0 ≡ 0 → (fs rs : List ℕ) → fs ≡ word f → rs ≡ word r
-      → gives 0 (line + 1) [] (set (put_mid rate_at number_size (put_mid flags_at number_size m fs) rs) 0 1) ≡ region_gives (on_connect rates (region.get m) line p f r)
+  pub connect_fresh : 0 ≡ connect_code rates p f r [] → get_or m 0 0 ≡ 0
+      → gives 0 (line + 1) [] (1 ∷ (word f ++ (word r ++ drop loopback_at m))) ≡ region_gives (on_connect rates (region.get m) line p f r)
   unfolding region_gives on_connect done_with says
-  connect_fresh e z fs rs ef er =
+  connect_fresh e z =
       let c = closed_at z in
       let zs : m ≡ zeros region_size = sym again ∙ ap region.put c ∙ closed_zeros in
       let k : connect_code rates p f r ((is_open (region.get m), 0x14) ∷ []) ≡ 0 = more_tests rates p f r _ (sym e) ∙ closed_code c in
-      (λ i. gives 0 (line + 1) [] (set (put_mid rate_at number_size (put_mid flags_at number_size (zs i) (ef i)) (er i)) 0 1))
-      ∙ ap (λ (x : List ℕ). gives 0 (line + 1) [] x) (stored ∙ sym (fresh_is f r))
+      ap (λ (x : List ℕ). gives 0 (line + 1) [] (1 ∷ (word f ++ (word r ++ drop loopback_at x)))) zs
+      ∙ ap (λ (x : List ℕ). gives 0 (line + 1) [] x) (sym (fresh_is f r))
       ∙ sym (ap region_gives (unless_none _ (region.get m) [] (done_with (fresh f r) (line + 1)) k))
     where
       closed_code : region.get m ≡ closed → code_of ((is_open (region.get m), 0x14) ∷ []) ≡ 0

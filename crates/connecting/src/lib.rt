@@ -1,29 +1,45 @@
 // Connecting: a fresh channel on a line, and its end.
 #![tactic(auto)]
 
-ghost use Rattle.std.specs.Prelude.{◌≡◌, List, [], ℕ, ◌<◌, T, length};
+ghost use Rattle.std.specs.Prelude.{◌≡◌, List, [], ℕ, ◌<◌, ◌≤◌, T, length};
+ghost use Rattle.codes.specs.Code.{code_of, value_of};
 ghost use Rattle.machine.specs.Limits.{lines};
 ghost use Rattle.machine.specs.Channel.{connect_code, on_connect, disconnect};
-ghost use Rattle.layout.specs.Sizes.{region_size};
+ghost use Rattle.layout.specs.Sizes.{region_size, loopback_at};
 ghost use Rattle.layout.specs.Memory.{region};
 ghost use Rattle.layout.specs.Promise.{gives, Opened, region_gives, call_outcome};
+ghost use Rattle.connecting.specs.Opening.{opening};
 
-use codes::Answer;
+use codes::Refusal;
 
-// The code of a connect by its protocol, flags and rate, which is one of those lent, in the scope's order.
-pub fn connect_code(rates: &[u32], protocol: u32, flags: u32, rate: u32) -> u32
-    ensures { result ≡ connect_code rates.now protocol flags rate [] }
+// The checks of a connect in the scope's order: its protocol, its flags, and its rate, which is one of those lent.
+pub fn connect_code(rates: &[u32], protocol: u32, flags: u32, rate: u32) -> Result<(), Refusal>
+    ensures { code_of result ≡ connect_code rates.now protocol flags rate [] }
 {
     if protocol != can::PROTOCOL {
-        return codes::ERR_INVALID_PROTOCOL_ID;
+        return Err(Refusal::InvalidProtocolId);
     }
     if !can::is_raw_flags(flags) {
-        return codes::ERR_INVALID_FLAGS;
+        return Err(Refusal::InvalidFlags);
     }
     if !can::is_rate(rates, rate) {
-        return codes::ERR_INVALID_BAUDRATE;
+        return Err(Refusal::InvalidBaudrate);
     }
-    codes::STATUS_NOERROR
+    Ok(())
+}
+
+// Opens a closed channel's region, whatever its kind: its mark, its flags and its rate.
+pub fn open(r: &mut [u8], flags: u32, rate: u32) -> Result<(), Refusal>
+    requires { loopback_at ≤ length r.old }
+    ensures { (code_of result, r.new) ≡ opening flags rate r.old }
+{
+    if r[0] != 0 {
+        return Err(Refusal::ChannelInUse);
+    }
+    integers::put_word(&mut r[places::FLAGS..places::RATE], flags);
+    integers::put_word(&mut r[places::RATE..places::LOOPBACK], rate);
+    r[0] = 1;
+    Ok(())
 }
 
 // Connect: a closed channel's region becomes that of a fresh one.
@@ -34,27 +50,13 @@ pub fn connect_in(
     protocol: u32,
     flags: u32,
     rate: u32,
-) -> Answer
+) -> Result<u32, Refusal>
     requires { (length r.old ≡ region_size) × T (region.valid r.old) × (line < lines) }
-    ensures { gives result.code result.value [] r.new ≡ region_gives (on_connect rates.now (region.get r.old) line protocol flags rate) }
+    ensures { gives (code_of result) (value_of result) [] r.new ≡ region_gives (on_connect rates.now (region.get r.old) line protocol flags rate) }
 {
-    let code = connect_code(rates, protocol, flags, rate);
-    if code != codes::STATUS_NOERROR {
-        return Answer { code, value: 0 };
-    }
-    if r[0] != 0 {
-        return Answer {
-            code: codes::ERR_CHANNEL_IN_USE,
-            value: 0,
-        };
-    }
-    integers::put_word(&mut r[places::FLAGS..places::RATE], flags);
-    integers::put_word(&mut r[places::RATE..places::LOOPBACK], rate);
-    r[0] = 1;
-    Answer {
-        code: codes::STATUS_NOERROR,
-        value: line + 1,
-    }
+    connect_code(rates, protocol, flags, rate)?;
+    open(r, flags, rate)?;
+    Ok(line + 1)
 }
 
 // Disconnect: the region becomes zeros.

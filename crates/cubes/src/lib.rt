@@ -5,10 +5,9 @@ ghost use Rattle.std.specs.Prelude.{◌≡◌, ℕ, ◌<◌, length};
 ghost use Rattle.std.specs.Int.Bits.{bit_and};
 ghost use Rattle.cubes.specs.Cube.{Answered, SingleBit, Surveyed};
 
-// What one look at the ten cubes finds: one of them holds all of (cm, cp), or the bits that the open ones want 1, and those that they want 0.
-#[derive(Drop)]
-struct Found {
-    covered: bool,
+// The bits that open cubes want 1, and those that they want 0.
+#[derive(Clone, Copy)]
+struct Wanted {
     ones: u64,
     zeros: u64,
 }
@@ -21,10 +20,10 @@ fn lowest(x: u64) -> u64
     1u64 << u64::trailing_zeros(x)
 }
 
-// One look at the ten cubes.
-fn survey(ms: &[u64; 10], ps: &[u64; 10], cm: u64, cp: u64) -> Found
+// One look at the ten cubes: what the open ones want, none where one of the ten holds all of (cm, cp).
+fn survey(ms: &[u64; 10], ps: &[u64; 10], cm: u64, cp: u64) -> Option<Wanted>
     requires { (length ms.now ≡ 10) × (length ps.now ≡ 10) }
-    ensures { Surveyed ms.now ps.now cm cp result.covered result.ones result.zeros }
+    ensures { Surveyed ms.now ps.now cm cp result }
 {
     let mut ones = 0u64;
     let mut zeros = 0u64;
@@ -34,21 +33,13 @@ fn survey(ms: &[u64; 10], ps: &[u64; 10], cm: u64, cp: u64) -> Found
         if ((p & cm) == (cp & m)) & ((p & m) == p) {
             let more = m ^ (m & cm);
             if more == 0 {
-                return Found {
-                    covered: true,
-                    ones: 0,
-                    zeros: 0,
-                };
+                return None;
             }
             ones = ones | (p & more);
             zeros = zeros | (more ^ (more & p));
         }
     }
-    Found {
-        covered: false,
-        ones: ones,
-        zeros: zeros,
-    }
+    Some(Wanted { ones, zeros })
 }
 
 // Is some number of the cube (cm, cp) in none of the ten? Where no bit is wanted both ways by those that are open, one that differs from all of them
@@ -57,11 +48,10 @@ pub fn uncovered(ms: &[u64; 10], ps: &[u64; 10], cm: u64, cp: u64) -> bool
     requires { (length ms.now ≡ 10) × (length ps.now ≡ 10) × (bit_and cp cm ≡ cp) }
     ensures { Answered ms.now ps.now cm cp result }
 {
-    let s = survey(ms, ps, cm, cp);
-    if s.covered {
+    let Some(wanted) = survey(ms, ps, cm, cp) else {
         return false;
-    }
-    let mixed = s.ones & s.zeros;
+    };
+    let mixed = wanted.ones & wanted.zeros;
     if mixed == 0 {
         return true;
     }

@@ -1,8 +1,7 @@
 -- What code finds out about a width and an identifier is what the machine answers, and the region stays. Assumes nothing.
 use Rattle.std.specs.Prelude.{if◌then◌else◌}
-use mathlib.Core.Path.{◌≡◌, refl, sym, ap, subst, ◌∙◌}
-use Prim.Native.Nat.{ℕ, suc, zero, ◌≤◌}
-use native.Mathlib.Omega.{arith}
+use mathlib.Core.Path.{◌≡◌, refl, sym, ap, ◌∙◌}
+use Prim.Native.Nat.{ℕ, suc, zero}
 use mathlib.Core.Bool.{Bool, true, false}
 use mathlib.Core.List.{List, []}
 use lib.ListN.{take, drop}
@@ -10,23 +9,13 @@ use lib.Dec.{eqb}
 use Rattle.codec.specs.Word.{word_at}
 use Rattle.machine.specs.Message.{id_bytes, takes}
 use Rattle.machine.specs.Filter.{Slots, Filter}
-use Rattle.machine.specs.Early.{Early, drops, passes_all, must_see, early, early_number}
+use Rattle.machine.specs.Early.{drops, early, early_number}
 use Rattle.machine.specs.Channel.{Open, opened, says, unless, done_with, frame_code, decided, on_decide, on_raw_call, on_open, decide}
 use Rattle.layout.specs.Sizes.{filters_at, filters_size}
 use Rattle.layout.specs.Memory.{filters}
 use Rattle.layout.specs.Promise.{gives, Opened, call_outcome}
 use Rattle.layout.proofs.Region.{open_of, stays, word_of, flags_part}
 use Rattle.filterbank.proofs.Lent.{held_is}
-
--- an answer's number is one of three
-pub number_small : (e : Early) → early_number e ≤ 2
-unfolding early_number
-number_small drops = omega arith
-number_small passes_all = omega arith
-number_small must_see = omega arith
-
-pub small : {n : ℕ} (e : Early) → n ≡ early_number e → n ≤ 2
-small {n} e q = subst (λ (k : ℕ). k ≤ 2) (sym q) (number_small e)
 
 module _ {r : List ℕ} (f : Opened r) (w id : ℕ) (rates : List ℕ) (t : ℕ) where
   abbrev o : Open

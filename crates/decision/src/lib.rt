@@ -1,39 +1,21 @@
 // The answers to the question what becomes of every frame of a width with an identifier, and their numbers.
 #![tactic(auto)]
 
-ghost use Rattle.std.specs.Prelude.{◌≡◌, ◌≤◌};
-ghost use Rattle.decision.specs.Number.{number_of};
+ghost use Rattle.std.specs.Prelude.{◌≡◌};
+ghost use Rattle.decision.specs.Number.{number_of, told};
+
+use codes::Refusal;
 
 // Dropped, whatever the data; passes, whatever the data; the data must be seen.
-#[derive(Drop)]
+#[derive(Clone, Copy)]
 pub enum Decision {
     Dropped,
     Passes,
     MustSee,
 }
 
-// An answer: its code, and what was decided, dropped where the code is not 0x00.
-#[derive(Drop)]
-pub struct Decided {
-    pub code: u32,
-    pub decision: Decision,
-}
-
-// The decision of a number.
-pub fn of_number(n: u8) -> Decision
-    requires { n ≤ 2 }
-    ensures { number_of result ≡ n }
-{
-    if n == 0 {
-        return Decision::Dropped;
-    }
-    if n == 1 {
-        return Decision::Passes;
-    }
-    Decision::MustSee
-}
-
 // The number of a decision: 0 dropped, 1 passes, 2 the data must be seen.
+#[tactic(auto, unfolding(crate::specs::Number::number_of, crate::specs::Number::said, machine::specs::Early::early_number))]
 pub fn number_of(d: Decision) -> u32
     ensures { result ≡ number_of d }
 {
@@ -42,4 +24,11 @@ pub fn number_of(d: Decision) -> u32
         Decision::Passes => 1,
         Decision::MustSee => 2,
     }
+}
+
+// The number that an answer tells: that of its decision, 0 where it is a refusal.
+pub fn told(answer: Result<Decision, Refusal>) -> u32
+    ensures { result ≡ told answer }
+{
+    answer.map_or(0, number_of)
 }

@@ -4,7 +4,7 @@
 
 pub use box_places::BOX as MEMORY;
 pub use box_validity::valid;
-pub use decision::{Decided, Decision};
+pub use decision::Decision;
 pub use device_channels::{clear, connect, disconnect, get, last_error, set};
 pub use device_deciding::decide;
 pub use device_lines::{advance, close, frame, power_on};
@@ -15,3 +15,4 @@ pub use device_orders::{
 };
 pub use device_setups::{load, save};
 pub use device_traffic::{read, sent, take, write};
+pub use link_asking::Asking;

@@ -6,20 +6,17 @@ ghost use Rattle.machine.specs.Codes.{two_rates};
 ghost use Rattle.machine.specs.Channel.{decide as decide_call};
 ghost use Rattle.machine.specs.Step.{call};
 ghost use Rattle.layout.specs.Promise.{gives};
-ghost use Rattle.decision.specs.Number.{number_of};
+ghost use Rattle.codes.specs.Code.{code_of};
+ghost use Rattle.decision.specs.Number.{told};
 ghost use Rattle.memory.specs.Promise.{outcome};
 
-use decision::{Decided, Decision};
+use codes::Refusal;
+use decision::Decision;
 
 // What becomes of every frame of a width with an identifier.
-pub fn decide(mem: &mut [u8], channel: u32, wide: u32, id: u32) -> Decided
-    ensures { gives result.code (number_of result.decision) [] mem.new ≡ outcome two_rates mem.old (call channel (decide_call wide id)) }
+pub fn decide(mem: &mut [u8], channel: u32, wide: u32, id: u32) -> Result<Decision, Refusal>
+    ensures { gives (code_of result) (told result) [] mem.new ≡ outcome two_rates mem.old (call channel (decide_call wide id)) }
 {
-    if !box_validity::valid(mem) {
-        return Decided {
-            code: codes::ERR_INVALID_DEVICE_ID,
-            decision: Decision::Dropped,
-        };
-    }
+    box_validity::check(mem)?;
     box_deciding::decide(mem, channel, wide, id)
 }

@@ -2,6 +2,7 @@
 #![tactic(auto)]
 
 ghost use Rattle.std.specs.Prelude.{◌≡◌, []};
+ghost use Rattle.codes.specs.Code.{code_of};
 ghost use Rattle.machine.specs.Codes.{two_rates};
 ghost use Rattle.machine.specs.Step.{close as closes};
 ghost use Rattle.machine.specs.Step.{advance as advances};
@@ -10,44 +11,39 @@ ghost use Rattle.layout.specs.Promise.{gives};
 ghost use Rattle.memory.specs.Promise.{outcome, power_on_outcome};
 
 use box_places::BOX;
+use codes::Refusal;
 
 // Any bytes of the right size become the memory of a box just switched on.
-pub fn power_on(mem: &mut [u8]) -> u32
-    ensures { gives result 0 [] mem.new ≡ power_on_outcome mem.old }
+pub fn power_on(mem: &mut [u8]) -> Result<(), Refusal>
+    ensures { gives (code_of result) 0 [] mem.new ≡ power_on_outcome mem.old }
 {
     if mem.len() != BOX {
-        return codes::ERR_INVALID_DEVICE_ID;
+        return Err(Refusal::InvalidDeviceId);
     }
     octets::zero(mem);
-    codes::STATUS_NOERROR
+    Ok(())
 }
 
 // Disconnects all; the clock runs on.
-pub fn close(mem: &mut [u8]) -> u32
-    ensures { gives result 0 [] mem.new ≡ outcome two_rates mem.old closes }
+pub fn close(mem: &mut [u8]) -> Result<(), Refusal>
+    ensures { gives (code_of result) 0 [] mem.new ≡ outcome two_rates mem.old closes }
 {
-    if !box_validity::valid(mem) {
-        return codes::ERR_INVALID_DEVICE_ID;
-    }
+    box_validity::check(mem)?;
     box_lines::close(mem)
 }
 
 // Time goes on, for the clock and every channel.
-pub fn advance(mem: &mut [u8], us: u32) -> u32
-    ensures { gives result 0 [] mem.new ≡ outcome two_rates mem.old (advances us) }
+pub fn advance(mem: &mut [u8], us: u32) -> Result<(), Refusal>
+    ensures { gives (code_of result) 0 [] mem.new ≡ outcome two_rates mem.old (advances us) }
 {
-    if !box_validity::valid(mem) {
-        return codes::ERR_INVALID_DEVICE_ID;
-    }
+    box_validity::check(mem)?;
     box_times::advance(mem, us)
 }
 
 // A frame from a line, offered to both of the line's channels.
-pub fn frame(mem: &mut [u8], line: u32, wide: u32, id: u32, bytes: &[u8]) -> u32
-    ensures { gives result 0 [] mem.new ≡ outcome two_rates mem.old (framed line wide id bytes.now) }
+pub fn frame(mem: &mut [u8], line: u32, wide: u32, id: u32, bytes: &[u8]) -> Result<(), Refusal>
+    ensures { gives (code_of result) 0 [] mem.new ≡ outcome two_rates mem.old (framed line wide id bytes.now) }
 {
-    if !box_validity::valid(mem) {
-        return codes::ERR_INVALID_DEVICE_ID;
-    }
+    box_validity::check(mem)?;
     box_frames::frame(mem, line, wide, id, bytes)
 }

@@ -1,12 +1,10 @@
 -- Lists of pairs, one pair at a time, as the loops take them. Assumes nothing.
-use mathlib.Core.Path.{◌≡◌, refl, sym, ap, subst, ◌∙◌}
-use Prim.Native.Nat.{ℕ, zero, suc, ◌+◌, ◌≤◌, ◌<◌}
+use mathlib.Core.Path.{◌≡◌, refl, sym, ap, ◌∙◌}
+use Prim.Native.Nat.{ℕ, zero, suc, ◌≤◌, ◌<◌}
 use native.Mathlib.Nat.{le_of_suc-le-suc, not-suc-le-zero}
 use native.Mathlib.Omega.{arith}
-use mathlib.Core.Bool.{Bool, true, false, not}
 use mathlib.Core.List.{List, [], ◌∷◌, ◌++◌}
 use lib.ListN.{length, get_or, set, take, drop, length-drop}
-use lib.Dec.{T, eqb, eqb→eq}
 use Rattle.machine.specs.Codes.{two_rates}
 use Rattle.machine.specs.Limits.{most_pairs}
 use Rattle.machine.specs.Channel.{Pairs, flat, get_parameter, set_parameter, get_list, set_list}
@@ -17,18 +15,6 @@ use Rattle.memory.proofs.Lists.{Ready, set_ends as set_none_left, set_goes, set_
 use Rattle.device_lists.specs.declared.Pair.{Pair}
 use Rattle.device_lists.specs.Lists.{told, listed, valued, blank}
 use Rattle.device_lists.proofs.Refused.{known}
-
--- ---- what the tests of the code say
-
-pub not_code : (n : ℕ) → T (not (eqb n 0)) → n ≡ 0 → ⊥
-not_code n h e = subst (λ (k : ℕ). T (not (eqb k 0))) e h
-
-pub is_code : (n : ℕ) → T (not (not (eqb n 0))) → n ≡ 0
-is_code n h = eqb→eq n 0 (twice_not (eqb n 0) h)
-  where
-    twice_not : (b : Bool) → T (not (not b)) → T b
-    twice_not true h = tt
-    twice_not false h = h
 
 -- ---- lists
 
@@ -41,6 +27,12 @@ from_here (suc i) (p ∷ l) h = from_here i l (le_of_suc-le-suc h)
 none_behind : (l : List Pair) → drop (length l) l ≡ []
 none_behind [] = refl
 none_behind (p ∷ l) = none_behind l
+
+-- a pair put back where it lies
+pub put_back : (i : ℕ) (l : List Pair) → i < length l → set l i (get_or l i blank) ≡ l
+put_back i [] h = absurd (not-suc-le-zero h)
+put_back zero (p ∷ l) h = refl
+put_back (suc i) (p ∷ l) h = ap (λ (l : List Pair). p ∷ l) (put_back i l (le_of_suc-le-suc h))
 
 -- the machine's list has as many
 pub listed_length : (l : List Pair) → length (listed l) ≡ length l

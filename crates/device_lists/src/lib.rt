@@ -2,6 +2,7 @@
 #![tactic(auto)]
 
 ghost use Rattle.std.specs.Prelude.{◌≡◌, List, [], ℕ, T};
+ghost use Rattle.codes.specs.Code.{code_of, value_of};
 ghost use Rattle.machine.specs.Codes.{two_rates};
 ghost use Rattle.machine.specs.Channel.{flat, get_parameter, set_parameter, get_list, set_list};
 ghost use Rattle.machine.specs.Step.{call};
@@ -10,9 +11,9 @@ ghost use Rattle.memory.specs.Memory.{valid};
 ghost use Rattle.memory.specs.Promise.{outcome};
 ghost use Rattle.device_lists.specs.Lists.{listed, Begun};
 
-use box_places::ISO_REGIONS;
 use can::RATES;
-use codes::Answer;
+use codes::Refusal;
+use seats::Seat;
 
 // A parameter and its value.
 #[repr(C)]
@@ -25,80 +26,59 @@ pub struct Pair {
 // The most pairs of a list.
 const MOST: usize = 16;
 
-// Whether a list of n pairs is begun: the code that refuses it before any pair, noted where the channel is open, else 0.
-fn begin(mem: &mut [u8], channel: u32, n: usize) -> u32
+// Begins a list of n pairs: what refuses it before any pair is noted where the channel is open.
+fn begin(mem: &mut [u8], channel: u32, n: usize) -> Result<(), Refusal>
     ensures { Begun mem.old channel n result mem.new }
 {
-    if !box_validity::valid(mem) {
-        return codes::ERR_INVALID_DEVICE_ID;
-    }
-    let a = seats::region_of(mem, channel);
-    if a == 0 {
-        return codes::ERR_INVALID_CHANNEL_ID;
-    }
+    box_validity::check(mem)?;
+    let Some(seat) = seats::seat_of(mem, channel) else {
+        return Err(Refusal::InvalidChannelId);
+    };
     if n <= MOST {
-        return codes::STATUS_NOERROR;
+        return Ok(());
     }
-    if a < ISO_REGIONS {
-        noting::note(mem, a, codes::ERR_NULL_PARAMETER);
-        return codes::ERR_NULL_PARAMETER;
+    match seat {
+        Seat::Raw(at) => noting::note(mem, at, u32::from(Refusal::NullParameter)),
+        Seat::Iso(at) => iso_settings::note(mem, at, u32::from(Refusal::NullParameter)),
     }
-    iso_settings::note(mem, a, codes::ERR_NULL_PARAMETER);
-    codes::ERR_NULL_PARAMETER
+    Err(Refusal::NullParameter)
 }
 
 // Sets one parameter, on a memory known to be valid.
-fn set_one(mem: &mut [u8], channel: u32, parameter: u32, value: u32) -> u32
+fn set_one(mem: &mut [u8], channel: u32, parameter: u32, value: u32) -> Result<(), Refusal>
     requires { T (valid mem.old) }
-    ensures { gives result 0 [] mem.new ≡ outcome two_rates mem.old (call channel (set_parameter parameter value)) }
+    ensures { gives (code_of result) 0 [] mem.new ≡ outcome two_rates mem.old (call channel (set_parameter parameter value)) }
 {
     let rates = RATES;
     box_channels::set(mem, &rates, channel, parameter, value)
 }
 
 // Gets one parameter, on a memory known to be valid.
-fn get_one(mem: &mut [u8], channel: u32, parameter: u32) -> Answer
+fn get_one(mem: &mut [u8], channel: u32, parameter: u32) -> Result<u32, Refusal>
     requires { T (valid mem.old) }
-    ensures { gives result.code result.value [] mem.new ≡ outcome two_rates mem.old (call channel (get_parameter parameter)) }
+    ensures { gives (code_of result) (value_of result) [] mem.new ≡ outcome two_rates mem.old (call channel (get_parameter parameter)) }
 {
     box_channels::get(mem, channel, parameter)
 }
 
 // Sets the pairs in order, up to the first refused one.
-pub fn set_list(mem: &mut [u8], channel: u32, pairs: &[Pair]) -> u32
-    ensures { gives result 0 [] mem.new ≡ outcome two_rates mem.old (call channel (set_list (listed pairs.now))) }
+pub fn set_list(mem: &mut [u8], channel: u32, pairs: &[Pair]) -> Result<(), Refusal>
+    ensures { gives (code_of result) 0 [] mem.new ≡ outcome two_rates mem.old (call channel (set_list (listed pairs.now))) }
 {
-    let refused = begin(mem, channel, pairs.len());
-    if refused != codes::STATUS_NOERROR {
-        return refused;
+    begin(mem, channel, pairs.len())?;
+    for pair in pairs {
+        set_one(mem, channel, pair.parameter, pair.value)?;
     }
-    let mut i = 0;
-    while i < pairs.len() {
-        let code = set_one(mem, channel, pairs[i].parameter, pairs[i].value);
-        if code != codes::STATUS_NOERROR {
-            return code;
-        }
-        i += 1;
-    }
-    codes::STATUS_NOERROR
+    Ok(())
 }
 
 // Gets the pairs in order, each value in its own pair, up to the first refused one.
-pub fn get_list(mem: &mut [u8], channel: u32, pairs: &mut [Pair]) -> u32
-    ensures { gives result 0 (flat (listed pairs.new)) mem.new ≡ outcome two_rates mem.old (call channel (get_list (listed pairs.old))) }
+pub fn get_list(mem: &mut [u8], channel: u32, pairs: &mut [Pair]) -> Result<(), Refusal>
+    ensures { gives (code_of result) 0 (flat (listed pairs.new)) mem.new ≡ outcome two_rates mem.old (call channel (get_list (listed pairs.old))) }
 {
-    let refused = begin(mem, channel, pairs.len());
-    if refused != codes::STATUS_NOERROR {
-        return refused;
+    begin(mem, channel, pairs.len())?;
+    for pair in pairs.iter_mut() {
+        pair.value = get_one(mem, channel, pair.parameter)?;
     }
-    let mut i = 0;
-    while i < pairs.len() {
-        let got = get_one(mem, channel, pairs[i].parameter);
-        if got.code != codes::STATUS_NOERROR {
-            return got.code;
-        }
-        pairs[i].value = got.value;
-        i += 1;
-    }
-    codes::STATUS_NOERROR
+    Ok(())
 }

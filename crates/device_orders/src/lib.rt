@@ -2,24 +2,26 @@
 #![tactic(auto)]
 
 ghost use Rattle.std.specs.Prelude.{◌≡◌, []};
+ghost use Rattle.codes.specs.Code.{code_of, value_of};
 ghost use Rattle.machine.specs.Codes.{two_rates};
 ghost use Rattle.machine.specs.Channel.{start_filter, start_flow, stop_filter, start_periodic, stop_periodic};
 ghost use Rattle.machine.specs.Step.{call};
 ghost use Rattle.layout.specs.Promise.{gives};
 ghost use Rattle.memory.specs.Promise.{outcome};
 
-use codes::Answer;
+use codes::Refusal;
 
 // A filter more; its number.
-pub fn start_filter(mem: &mut [u8], channel: u32, kind: u32, mask: &[u8], pattern: &[u8]) -> Answer
-    ensures { gives result.code result.value [] mem.new ≡ outcome two_rates mem.old (call channel (start_filter kind mask.now pattern.now)) }
+pub fn start_filter(
+    mem: &mut [u8],
+    channel: u32,
+    kind: u32,
+    mask: &[u8],
+    pattern: &[u8],
+) -> Result<u32, Refusal>
+    ensures { gives (code_of result) (value_of result) [] mem.new ≡ outcome two_rates mem.old (call channel (start_filter kind mask.now pattern.now)) }
 {
-    if !box_validity::valid(mem) {
-        return Answer {
-            code: codes::ERR_INVALID_DEVICE_ID,
-            value: 0,
-        };
-    }
+    box_validity::check(mem)?;
     box_orders::start_filter(mem, channel, kind, mask, pattern)
 }
 
@@ -31,47 +33,38 @@ pub fn start_flow_filter(
     mask: &[u8],
     pattern: &[u8],
     flow: &[u8],
-) -> Answer
-    ensures { gives result.code result.value [] mem.new ≡ outcome two_rates mem.old (call channel (start_flow kind mask.now pattern.now flow.now)) }
+) -> Result<u32, Refusal>
+    ensures { gives (code_of result) (value_of result) [] mem.new ≡ outcome two_rates mem.old (call channel (start_flow kind mask.now pattern.now flow.now)) }
 {
-    if !box_validity::valid(mem) {
-        return Answer {
-            code: codes::ERR_INVALID_DEVICE_ID,
-            value: 0,
-        };
-    }
+    box_validity::check(mem)?;
     box_orders::start_flow_filter(mem, channel, kind, mask, pattern, flow)
 }
 
 // A filter less.
-pub fn stop_filter(mem: &mut [u8], channel: u32, number: u32) -> u32
-    ensures { gives result 0 [] mem.new ≡ outcome two_rates mem.old (call channel (stop_filter number)) }
+pub fn stop_filter(mem: &mut [u8], channel: u32, number: u32) -> Result<(), Refusal>
+    ensures { gives (code_of result) 0 [] mem.new ≡ outcome two_rates mem.old (call channel (stop_filter number)) }
 {
-    if !box_validity::valid(mem) {
-        return codes::ERR_INVALID_DEVICE_ID;
-    }
+    box_validity::check(mem)?;
     box_orders::stop_filter(mem, channel, number)
 }
 
 // A periodic more; its number.
-pub fn start_periodic(mem: &mut [u8], channel: u32, message: &[u8], interval: u32) -> Answer
-    ensures { gives result.code result.value [] mem.new ≡ outcome two_rates mem.old (call channel (start_periodic message.now interval)) }
+pub fn start_periodic(
+    mem: &mut [u8],
+    channel: u32,
+    message: &[u8],
+    interval: u32,
+) -> Result<u32, Refusal>
+    ensures { gives (code_of result) (value_of result) [] mem.new ≡ outcome two_rates mem.old (call channel (start_periodic message.now interval)) }
 {
-    if !box_validity::valid(mem) {
-        return Answer {
-            code: codes::ERR_INVALID_DEVICE_ID,
-            value: 0,
-        };
-    }
+    box_validity::check(mem)?;
     box_orders::start_periodic(mem, channel, message, interval)
 }
 
 // A periodic less.
-pub fn stop_periodic(mem: &mut [u8], channel: u32, number: u32) -> u32
-    ensures { gives result 0 [] mem.new ≡ outcome two_rates mem.old (call channel (stop_periodic number)) }
+pub fn stop_periodic(mem: &mut [u8], channel: u32, number: u32) -> Result<(), Refusal>
+    ensures { gives (code_of result) 0 [] mem.new ≡ outcome two_rates mem.old (call channel (stop_periodic number)) }
 {
-    if !box_validity::valid(mem) {
-        return codes::ERR_INVALID_DEVICE_ID;
-    }
+    box_validity::check(mem)?;
     box_orders::stop_periodic(mem, channel, number)
 }

@@ -4,12 +4,14 @@
 ghost use Rattle.std.specs.Prelude.{◌≡◌, ℕ, ◌+◌, ◌≤◌, ◌<◌, length};
 ghost use Rattle.machine.specs.Limits.{most_places, most_data};
 ghost use Rattle.machine.specs.Message.{id_bytes};
-ghost use Rattle.machine.specs.Early.{early, early_number};
+ghost use Rattle.machine.specs.Early.{early};
 ghost use Rattle.layout.specs.Sizes.{filters_size};
 ghost use Rattle.layout.specs.Memory.{filters};
+ghost use Rattle.decision.specs.Number.{said};
 ghost use Rattle.filterbank.specs.Part.{FilterPart};
 ghost use Rattle.early.specs.Cubes.{data_at, kept_at, mask_at, pattern_at};
 
+use decision::Decision;
 use early_rule::Cube;
 use places::{MASKS_IN, NUMBER, PATTERNS_IN, PLACES, ROW, WIDTHS_IN};
 
@@ -44,10 +46,10 @@ fn cube_at(part: &[u8], f: usize, wide: bool, id: u32) -> Cube
     early_rule::chosen(keep, mask, pattern)
 }
 
-// The answer of a channel's filters for every frame of a width with an identifier: 0 dropped, 1 passes, 2 the data must be seen.
-pub fn answer(part: &[u8], wide: bool, id: u32) -> u8
+// The answer of a channel's filters for every frame of a width with an identifier.
+pub fn answer(part: &[u8], wide: bool, id: u32) -> Decision
     requires { FilterPart part.now }
-    ensures { (flags : ℕ) → result ≡ early_number (early ((filters flags).get part.now) wide (id_bytes id)) }
+    ensures { (flags : ℕ) → said result ≡ early ((filters flags).get part.now) wide (id_bytes id) }
 {
     let mut ms = [0u64; PLACES];
     let mut ps = [1u64; PLACES];

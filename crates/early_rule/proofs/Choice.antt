@@ -13,7 +13,7 @@ use lib.ListN.{get_or}
 use borrow.Author.Tests.{eq-eqb, eqb-true, le-leb, leb-true}
 use Rattle.machine.specs.Limits.{most_places, least_data}
 use Rattle.machine.specs.Filter.{Slots, Filter}
-use Rattle.machine.specs.Early.{early, must_see, early_number}
+use Rattle.machine.specs.Early.{early, drops, passes_all, must_see}
 use Rattle.machine.proofs.Every.{apart}
 use Rattle.cubes.proofs.Steps.{and_twice}
 use Rattle.early_rule.specs.Words.{type_at, size_at, able_at, free_at, some_below, all_pass, In, Conds, Clear, Passing, Passed, Shut, SomePasses}
@@ -117,17 +117,17 @@ module _ (heads ms ps : List ℕ) where
     unfolding able_at
     was_able j a = ap₂ (λ (a b : Bool). a && b) a.block (eq-eqb _ _ a.fits)
 
-    pub answer_passes : true ≡ all_pass heads ms ps → 1 ≡ early_number (early fs wide id)
-    unfolding early_number all_pass
+    pub answer_passes : true ≡ all_pass heads ms ps → passes_all ≡ early fs wide id
+    unfolding all_pass
     answer_passes e =
         let u = both (some_below most_places (free_at heads ps)) (not (some_below most_places (able_at heads ms ps))) (sym e) in
         let w = below_found (free_at heads ps) most_places u.0 in
-        sym (ap early_number (everything fs wide id heads ms ps c w.0 (is_free w.0 w.1 w.2)
-        (λ k a. apart (sym (below_here (able_at heads ms ps) most_places k a.low (was_able k a)) ∙ not_so _ u.1))))
+        sym (everything fs wide id heads ms ps c w.0 (is_free w.0 w.1 w.2)
+        (λ k a. apart (sym (below_here (able_at heads ms ps) most_places k a.low (was_able k a)) ∙ not_so _ u.1)))
 
-    pub answer_see : false ≡ all_pass heads ms ps → (r : Bool) → r ≡ true → SomePasses heads ms ps r → 2 ≡ early_number (early fs wide id)
-    unfolding early_number all_pass
-    answer_see e r q p = let w = p.some q in sym (ap early_number (go (some_below most_places (able_at heads ms ps)) (some_below most_places (free_at heads ps)) refl refl w.0 w.1))
+    pub answer_see : false ≡ all_pass heads ms ps → (r : Bool) → r ≡ true → SomePasses heads ms ps r → must_see ≡ early fs wide id
+    unfolding all_pass
+    answer_see e r q p = let w = p.some q in sym (go (some_below most_places (able_at heads ms ps)) (some_below most_places (free_at heads ps)) refl refl w.0 w.1)
       where
         go : (a g : Bool) → some_below most_places (able_at heads ms ps) ≡ a → some_below most_places (free_at heads ps) ≡ g → (f : ℕ) → Passed heads ms ps f → early fs wide id ≡ must_see
         go true g ea eg f w =
@@ -138,6 +138,5 @@ module _ (heads ms ps : List ℕ) where
             empty_dropped fs wide id heads ms ps c f w.x w.low w.pass w.within w.clear
             (λ j z. apart (sym (below_here (free_at heads ps) most_places j z.low (was_free j z)) ∙ eg))
 
-    pub answer_drops : (r : Bool) → r ≡ false → SomePasses heads ms ps r → 0 ≡ early_number (early fs wide id)
-    unfolding early_number
-    answer_drops r q p = sym (ap early_number (nothing fs wide id heads ms ps c (λ j h k x i o. p.none q j h k x i o)))
+    pub answer_drops : (r : Bool) → r ≡ false → SomePasses heads ms ps r → drops ≡ early fs wide id
+    answer_drops r q p = sym (nothing fs wide id heads ms ps c (λ j h k x i o. p.none q j h k x i o))

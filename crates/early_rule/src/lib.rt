@@ -5,25 +5,20 @@ ghost use Rattle.std.specs.Prelude.{◌≡◌, ℕ, ◌≤◌, ◌<◌, Bool, Li
 ghost use Rattle.std.specs.Int.Bits.{bit_and};
 ghost use Rattle.machine.specs.Limits.{most_places};
 ghost use Rattle.machine.specs.Filter.{Slots, Filter};
-ghost use Rattle.machine.specs.Early.{early, early_number};
+ghost use Rattle.machine.specs.Early.{early};
+ghost use Rattle.decision.specs.Number.{said};
 ghost use Rattle.layout.specs.Sizes.{masks_in};
 ghost use Rattle.early_rule.specs.Words.{mask_word, pattern_word, Conds, Passing, SomePasses, all_pass};
 
+use decision::Decision;
 use filterwalk::BLOCK;
 use places::{NUMBER, PLACES, SIZES_IN};
-
-// The answers.
-pub const DROPPED: u8 = 0;
-
-pub const PASSES: u8 = 1;
-
-pub const MUST_SEE: u8 = 2;
 
 // The bytes of an identifier, the first of a filter's.
 const ID_SIZE: u8 = NUMBER as u8;
 
 // The numbers x with x AND mask = pattern.
-#[derive(Drop)]
+#[derive(Clone, Copy)]
 pub struct Cube {
     pub mask: u64,
     pub pattern: u64,
@@ -99,15 +94,15 @@ fn all_pass(heads: &[u8], ms: &[u64], ps: &[u64]) -> bool
 }
 
 // The answer of any ten filters whose data are these cubes.
-pub fn decide(heads: &[u8], ms: &[u64], ps: &[u64]) -> u8
+pub fn decide(heads: &[u8], ms: &[u64], ps: &[u64]) -> Decision
     requires { (masks_in ≤ length heads.now) × (length ms.now ≡ most_places) × (length ps.now ≡ most_places) }
-    ensures { (fs : Slots Filter) (wide : Bool) (id : List ℕ) → Conds fs wide id heads.now ms.now ps.now → result ≡ early_number (early fs wide id) }
+    ensures { (fs : Slots Filter) (wide : Bool) (id : List ℕ) → Conds fs wide id heads.now ms.now ps.now → said result ≡ early fs wide id }
 {
     if all_pass(heads, ms, ps) {
-        return PASSES;
+        return Decision::Passes;
     }
     if some_passes(heads, ms, ps) {
-        return MUST_SEE;
+        return Decision::MustSee;
     }
-    DROPPED
+    Decision::Dropped
 }

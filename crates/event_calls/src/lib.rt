@@ -2,18 +2,19 @@
 #![tactic(auto)]
 
 ghost use Rattle.std.specs.Prelude.{◌≡◌, [], T};
+ghost use Rattle.codes.specs.Code.{code_of, value_of};
 ghost use Rattle.layout.specs.Promise.{gives};
 ghost use Rattle.memory.specs.Memory.{valid};
 ghost use Rattle.memory.specs.Promise.{outcome};
 ghost use Rattle.events.specs.Found.{plain_of, giving_of, PlainThere, GivingThere};
 
-use codes::Answer;
+use codes::Refusal;
 use events::{Giving, Plain};
 
-// The code of an event that is answered by its code alone.
-pub fn plain_code(mem: &mut [u8], rates: &[u32], recording: &[u8], e: Plain) -> u32
+// The answer to an event that is answered by its code alone.
+pub fn plain_code(mem: &mut [u8], rates: &[u32], recording: &[u8], e: Plain) -> Result<(), Refusal>
     requires { T (valid mem.old) × PlainThere recording.now e }
-    ensures { gives result 0 [] mem.new ≡ outcome rates.now mem.old (plain_of recording.now e) }
+    ensures { gives (code_of result) 0 [] mem.new ≡ outcome rates.now mem.old (plain_of recording.now e) }
 {
     match e {
         Plain::Disconnect(channel) => box_channels::disconnect(mem, channel),
@@ -37,9 +38,14 @@ pub fn plain_code(mem: &mut [u8], rates: &[u32], recording: &[u8], e: Plain) -> 
 }
 
 // The answer to an event that gives a number where it is done.
-pub fn giving_answer(mem: &mut [u8], rates: &[u32], recording: &[u8], e: Giving) -> Answer
+pub fn giving_answer(
+    mem: &mut [u8],
+    rates: &[u32],
+    recording: &[u8],
+    e: Giving,
+) -> Result<u32, Refusal>
     requires { T (valid mem.old) × GivingThere recording.now e }
-    ensures { gives result.code result.value [] mem.new ≡ outcome rates.now mem.old (giving_of recording.now e) }
+    ensures { gives (code_of result) (value_of result) [] mem.new ≡ outcome rates.now mem.old (giving_of recording.now e) }
 {
     match e {
         Giving::Connect(line, protocol, flags, rate) => {

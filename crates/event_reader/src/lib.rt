@@ -2,41 +2,42 @@
 #![tactic(auto)]
 
 ghost use Rattle.events.specs.Found.{ReadsArguments, ReadsEvent};
+ghost use Rattle.reader.specs.Cursor.{behind};
 
-use events::{Event, Found, Plain};
-use number::Number;
+use events::{Event, Giving, Plain};
+use reader::Reader;
 
 // The arguments of the event of a number.
-fn arguments(recording: &[u8], at: usize, kind: u32) -> Found
-    ensures { ReadsArguments kind recording.now at result }
+fn arguments(r: &mut Reader, kind: u32) -> Option<Event>
+    ensures { ReadsArguments kind r.old.recording.now r.old.at (behind result r.new.at) }
 {
     match kind {
-        1 => number_events::connect(recording, at),
-        2 => number_events::one(recording, at, kind),
-        3 => Found::Good(Event::Code(Plain::Close), at),
-        4 => number_events::one(recording, at, kind),
-        5 => byte_events::frame(recording, at),
-        6 => byte_events::filter(recording, at),
-        7 => number_events::both(recording, at, kind),
-        8 => byte_events::periodic(recording, at),
-        9 => number_events::both(recording, at, kind),
-        10 => byte_events::write(recording, at),
-        11 => number_events::read(recording, at),
-        12 => number_events::one(recording, at, kind),
-        13 => number_events::one(recording, at, kind),
-        14 => number_events::both(recording, at, kind),
-        15 => number_events::both(recording, at, kind),
-        16 => number_events::set(recording, at),
-        _ => Found::Bad,
+        1 => number_events::connect(r),
+        2 => Some(Event::Code(Plain::Disconnect(r.next_number()?))),
+        3 => Some(Event::Code(Plain::Close)),
+        4 => Some(Event::Code(Plain::Advance(r.next_number()?))),
+        5 => byte_events::frame(r),
+        6 => byte_events::filter(r),
+        7 => Some(Event::Code(Plain::StopFilter(r.next_number()?, r.next_number()?))),
+        8 => byte_events::periodic(r),
+        9 => Some(Event::Code(Plain::StopPeriodic(r.next_number()?, r.next_number()?))),
+        10 => byte_events::write(r),
+        11 => number_events::read(r),
+        12 => Some(Event::Take(r.next_number()?)),
+        13 => Some(Event::Code(Plain::Sent(r.next_number()?))),
+        14 => Some(Event::Code(Plain::Clear(r.next_number()?, r.next_number()?))),
+        15 => Some(Event::Number(Giving::Get(r.next_number()?, r.next_number()?))),
+        16 => number_events::set(r),
+        _ => None,
     }
 }
 
-// The event at a place of a recording, read whole.
-pub fn read_event(recording: &[u8], at: usize) -> Found
+// The event at a place of a recording, read whole, and the place after it; none where it is bad.
+pub fn read_event(recording: &[u8], at: usize) -> Option<(Event, usize)>
     ensures { ReadsEvent recording.now at result }
 {
-    let Number::Value { value: kind, next } = reader::read_number(recording, at) else {
-        return Found::Bad;
-    };
-    arguments(recording, next, kind)
+    let mut r = Reader::new(recording, at);
+    let kind = r.next_number()?;
+    let event = arguments(&mut r, kind)?;
+    Some((event, r.at))
 }

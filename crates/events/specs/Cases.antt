@@ -1,5 +1,6 @@
 -- Worked examples of events whose records go by the channel that they name, as a table. The proof that they hold is in proofs/Cases. Assumes nothing.
 use Rattle.std.specs.Prelude.{ℕ, List, [], ◌∷◌, ◌++◌, map, ◌≡◌, replicate}
+use Rattle.std.specs.Prelude.{Some, None}
 use Rattle.std.proofs.Math.Option.{Option, none, some}
 use Rattle.codec.specs.Plain.{zeros}
 use Rattle.machine.specs.Channel.{start_filter, start_flow, start_periodic, write, read, take_next}
@@ -7,12 +8,10 @@ use Rattle.machine.specs.Step as machine
 use Rattle.machine.specs.Step.{call}
 use Rattle.events.specs.Events.{read_event}
 use Rattle.events.specs.Values.{said_by, read_values}
-use Rattle.events.specs.Found.{found_of}
+use Rattle.events.specs.Found.{Found, found_of}
 use Rattle.events.specs.declared.Giving.TheVariants.{StartFilter, StartFlow, StartPeriodic}
 use Rattle.events.specs.declared.Event.{Event}
 use Rattle.events.specs.declared.Event.TheVariants.{Number, Write, Read, Take}
-use Rattle.events.specs.declared.Found.{Found}
-use Rattle.events.specs.declared.Found.TheVariants.{Good, Bad}
 
 -- a recording, what the reader answers at its start, and what that stands for
 pub record Case : Type 0 where
@@ -21,10 +20,10 @@ pub record Case : Type 0 where
   pub means : Option (machine.Event × ℕ)
 
 abbrev pub good : List ℕ → Event → machine.Event → ℕ → Case
-good b e m next = record { bytes = b; found = Good e next; means = some (m, next) }
+good b e m next = record { bytes = b; found = Some (e, next); means = some (m, next) }
 
 abbrev pub bad : List ℕ → Case
-bad b = record { bytes = b; found = Bad; means = none }
+bad b = record { bytes = b; found = None; means = none }
 
 -- a raw record and an ISO 15765 record, of one byte again and again
 abbrev pub short : ℕ → List ℕ

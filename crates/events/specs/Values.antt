@@ -1,6 +1,7 @@
 -- Each case of the event enums by the scope's section "Recording": its number, 1 to 16, and its values in their order, as the reader gives them.
 -- Raw bytes are given by the places where they start and end. Assumes nothing.
 use Rattle.std.specs.Prelude.{ℕ, ◌+◌, ◌*◌, ◌-◌, List, [], ◌∷◌, ◌++◌, leb, length, get_or, if◌then◌else◌}
+use Rattle.std.specs.Prelude as std
 use Rattle.std.proofs.Math.Option.{Option, none, some}
 use Rattle.recording_sizes.specs.Sizes.{on_iso, record_on}
 use Rattle.events.specs.Events.{Reads, ◌>>=◌, done, bad, number, at_most64}
@@ -10,8 +11,6 @@ use Rattle.events.specs.declared.Giving.{Giving}
 use Rattle.events.specs.declared.Giving.TheVariants as giving
 use Rattle.events.specs.declared.Event.{Event}
 use Rattle.events.specs.declared.Event.TheVariants as event
-use Rattle.events.specs.declared.Found.{Found}
-use Rattle.events.specs.declared.Found.TheVariants as found
 
 -- ---- the cases of the enums
 
@@ -66,9 +65,9 @@ values_of (event.Read channel n) = channel ∷ n ∷ []
 values_of (event.Take channel) = channel ∷ []
 
 -- an event's number and values, and the place after it; none where it is bad
-abbrev pub said_by : Found → Option ((ℕ × List ℕ) × ℕ)
-said_by (found.Good e next) = some ((number_of e, values_of e), next)
-said_by found.Bad = none
+abbrev pub said_by : std.Option (Event × ℕ) → Option ((ℕ × List ℕ) × ℕ)
+said_by (std.Some (e, next)) = some ((number_of e, values_of e), next)
+said_by std.None = none
 
 -- ---- the same, as they lie in a recording
 

@@ -2,7 +2,6 @@
 // standard error says where and why the recording is bad, or that the program could not read or write.
 #![tactic(auto)]
 
-use start_time::Start;
 use std::io;
 
 // Room for a piece: many lines, so that a full recording has few pieces.
@@ -15,10 +14,12 @@ struct Until {
     time: u64,
 }
 
-// Writes the lines from a place and a time on that have room in one piece, or says why it could not.
+// Writes the lines from a place and a time on that have room in one piece, or says why it could not. A piece that is refused leaves both as they are.
 fn write_piece(to: &impl Print, time: u64, recording: &[u8], at: usize) -> io::Result<Until> {
     let mut out = [0u8; PIECE];
-    let piece = exporting::export(time, recording, at, &mut out);
+    let Ok(piece) = exporting::export(time, recording, at, &mut out) else {
+        return Ok(Until { at, time });
+    };
     to.write_all(input::first(&out, piece.length))?;
     Ok(Until {
         at: piece.at,
@@ -30,15 +31,13 @@ fn write_piece(to: &impl Print, time: u64, recording: &[u8], at: usize) -> io::R
 fn write_lines(to: &impl Print, start: u64, recording: &[u8]) -> io::Result<()> {
     let mut at = 0;
     let mut time = start;
-    let mut turns = recording.len();
-    while turns > 0 {
+    for _ in 0..recording.len() {
         if at >= recording.len() {
             return Ok(());
         }
         let until = write_piece(to, time, recording, at)?;
         at = until.at;
         time = until.time;
-        turns -= 1;
     }
     Ok(())
 }
@@ -53,7 +52,7 @@ fn tell(out: &impl Print, said: &impl Print, start: u64, recording: &[u8]) -> io
 
 // Reads the start and the recording, and exports it.
 fn main(rt: HostRuntime) -> io::Result<()> {
-    let Start::At(start) = log_words::start(&rt, &rt.stderr(), b"export: ")? else {
+    let Some(start) = log_words::start(&rt, &rt.stderr(), b"export: ")? else {
         return Ok(());
     };
     let mut buffer = [0u8; input::READ];

@@ -14,7 +14,6 @@ use Rattle.edition.proofs.Marked.{at_mark, new_start, start_inside}
 use Rattle.candump.specs.Line.{second}
 use Rattle.candump.specs.Log.{latest}
 use Rattle.exporting.specs.Pieces.{line_room, piece, goes_on, event_at, piece_of, latest_at, Left, leaves, written, exports}
-use Rattle.exporting.specs.declared.Exported.{Exported}
 
 -- ---- the latest time
 
@@ -77,7 +76,3 @@ module _ (t : ℕ) (s : List ℕ) (at : ℕ) (b : List ℕ) where
         -- and the time is early enough where the events begin
         pub begins_early : length s ≤ longest → t ≤ latest + second * event_at s at
         begins_early h = omega (arith, latest_near at (omega arith), (event_inside s at more).1)
-
-pub nothing_written : (r : Exported) (code at time : ℕ) (b : List ℕ) → (r.code ≡ code) × (r.at ≡ at) × (r.time ≡ time) × (r.length ≡ 0)
-    → leaves r.code r.at r.time r.length b ≡ leaves code at time 0 b
-nothing_written r code at time b e = rw (e.0, e.1, e.2, e.3)

@@ -1,5 +1,5 @@
 -- The export of a recording in pieces of whole lines, and the promise of the function that writes one into a lent buffer. Assumes nothing.
-use Rattle.std.specs.Prelude.{ℕ, zero, suc, ◌+◌, ◌-◌, ◌*◌, ◌≡◌, ◌||◌, List, [], ◌++◌, leb, ltb, length, drop, if◌then◌else◌}
+use Rattle.std.specs.Prelude.{ℕ, zero, suc, ◌+◌, ◌-◌, ◌*◌, ◌≡◌, ◌||◌, List, [], ◌++◌, leb, ltb, length, drop, if◌then◌else◌, Result, Ok, Err}
 use Rattle.std.proofs.Math.Option.{Option, none, some}
 use Rattle.recording_sizes.specs.Sizes.{longest}
 use Rattle.machine.specs.Codes.{three_rates}
@@ -10,6 +10,9 @@ use Rattle.events.specs.Events.{read_event}
 use Rattle.answers.specs.Put.{Put}
 use Rattle.candump.specs.Line.{second}
 use Rattle.candump.specs.Log.{latest, entry, lasts, lines_text}
+use Rattle.codes.specs.Code.{number_of}
+use Rattle.codes.specs.declared.Refusal.{Refusal}
+use Rattle.exporting.specs.declared.Exported.{Exported}
 
 -- the most bytes of a line with its end: ten digits of seconds, six of microseconds, eight of an identifier, two of each of eight bytes, and 11 marks
 abbrev pub line_room : ℕ
@@ -75,6 +78,11 @@ pub record Left : Type 0 where
 
 abbrev pub leaves : ℕ → ℕ → ℕ → ℕ → List ℕ → Left
 leaves c i t n b = record { code = c; at = i; time = t; size = n; buffer = b }
+
+-- what code answers: a piece, or its code alone, and the place and the time stay
+abbrev pub told : ℕ → ℕ → Result Exported Refusal → List ℕ → Left
+told at time (Ok e) buffer = leaves 0x00 e.at e.time e.length buffer
+told at time (Err refusal) buffer = leaves (number_of refusal) at time 0 buffer
 
 -- what a piece writes stands at the buffer's start, and the bytes behind it stay
 unfoldable pub written : Piece → List ℕ → Left

@@ -9,18 +9,18 @@ ghost use Rattle.candump.specs.Line.{second};
 ghost use Rattle.candump.specs.Log.{latest, lasts};
 ghost use Rattle.events.specs.Events.{read_event};
 ghost use Rattle.events.specs.Found.{between, There, plain_of, event_of, PlainThere, EventThere};
-ghost use Rattle.exporting.specs.Pieces.{line_room, line_of, code_of, Exports, Reaches, event_at, latest_at, leaves, written, goes_on, exports};
+ghost use Rattle.exporting.specs.Pieces.{line_room, line_of, code_of, Exports, Reaches, event_at, latest_at, leaves, told, written, goes_on, exports};
 
-use events::{Event, Found, Plain};
+use codes::Refusal;
+use events::{Event, Plain};
 use recording_sizes::LONGEST;
 
 // The room of a line with its end.
 pub const LINE_ROOM: usize = 51;
 
-// A piece: its code, the place in the recording and the time at which it left off, and how many bytes of the output it wrote.
-#[derive(Drop)]
+// A piece: the place in the recording and the time at which it left off, and how many bytes of the output it wrote.
+#[derive(Clone, Copy)]
 pub struct Exported {
-    pub code: u32,
     pub at: usize,
     pub time: u64,
     pub length: usize,
@@ -57,7 +57,7 @@ fn put_logged(
     if line > 3 {
         return place;
     }
-    let code = frame_tests::frame_code(wide, id, bytes);
+    let code = codes::code_of(frame_tests::frame_code(wide, id, bytes));
     if code != codes::STATUS_NOERROR {
         return place;
     }
@@ -129,7 +129,7 @@ fn export_at(recording: &[u8], at: usize, time: u64, out: &mut [u8], place: usiz
     requires { (time ≤ latest + second * longest) × (place + line_room ≤ length out.old) }
     ensures { Reaches (length recording.now) (read_event recording.now at) time out.old place result.next result.time result.place out.new }
 {
-    let Found::Good(e, next) = event_reader::read_event(recording, at) else {
+    let Some((e, next)) = event_reader::read_event(recording, at) else {
         return Reached {
             next: recording.len(),
             time,
@@ -152,6 +152,7 @@ fn export_events(recording: &[u8], at: usize, start: u64, out: &mut [u8], last: 
     let mut next = at;
     let mut time = start;
     let mut place = 0;
+    // each event says where the next begins, which no `for` counts
     while (next < recording.len()) & (place <= last) {
         let reached = export_at(recording, next, time, out, place);
         next = reached.next;
@@ -181,42 +182,37 @@ fn latest_at(at: usize) -> u64
     candump::LATEST + candump::SECOND * LONGEST as u64
 }
 
-// Nothing is written: a code; the place and the time stay.
-fn stays(code: u32, at: usize, time: u64) -> Exported
-    ensures { (result.code ≡ code) × (result.at ≡ at) × (result.time ≡ time) × (result.length ≡ 0) }
-{
-    Exported {
-        code,
-        at,
-        time,
-        length: 0,
-    }
-}
-
 // Exports a piece of a recording from a place and a time in microseconds on, into a lent buffer: 0x04 where the buffer has no room for a line, 0x0A
-// for a time over the limit, and nothing changes; else 0x00, the place and the time at which it left off, and how many bytes it wrote. The place and
-// the time are all that the next piece needs; the first has place 0 and the start time.
-pub fn export(time: u64, recording: &[u8], at: usize, out: &mut [u8]) -> Exported
-    ensures { leaves result.code result.at result.time result.length out.new ≡ exports time recording.now at out.old }
+// for a time over the limit, and nothing changes; else the place and the time at which it left off, and how many bytes it wrote. The place and the
+// time are all that the next piece needs; the first has place 0 and the start time.
+pub fn export(time: u64, recording: &[u8], at: usize, out: &mut [u8]) -> Result<Exported, Refusal>
+    ensures { told at time result out.new ≡ exports time recording.now at out.old }
 {
     if out.len() < LINE_ROOM {
-        return stays(codes::ERR_NULL_PARAMETER, at, time);
+        return Err(Refusal::NullParameter);
     }
     if time > latest_at(at) {
-        return stays(codes::ERR_INVALID_MSG, at, time);
+        return Err(Refusal::InvalidMsg);
     }
     if at >= recording.len() {
-        return stays(codes::STATUS_NOERROR, at, time);
+        return Ok(Exported {
+            at,
+            time,
+            length: 0,
+        });
     }
     if recording.len() > LONGEST {
-        return stays(codes::STATUS_NOERROR, recording.len(), time);
+        return Ok(Exported {
+            at: recording.len(),
+            time,
+            length: 0,
+        });
     }
     let last = out.len() - LINE_ROOM;
     let end = export_events(recording, event_at(recording, at), time, out, last);
-    Exported {
-        code: codes::STATUS_NOERROR,
+    Ok(Exported {
         at: end.next,
         time: end.time,
         length: end.place,
-    }
+    })
 }

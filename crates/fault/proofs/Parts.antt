@@ -1,6 +1,6 @@
 -- One part of an event after another: what was wrong stays so, what is good is looked at further. Assumes nothing.
 use Prim.Native.Nat.{ℕ, zero, suc, ◌+◌, ◌*◌, ◌≤◌, ◌<◌}
-use mathlib.Core.Bool.{Bool, true, false}
+use mathlib.Core.Bool.{Bool, true, false, true≢false}
 use mathlib.Core.List.{List}
 use mathlib.Core.Path.{◌≡◌, refl, sym, ap, ◌∙◌}
 use native.Mathlib.Omega.{arith}
@@ -9,7 +9,8 @@ use lib.Dec.{leb}
 use lib.ListN.{length, drop, get_or, get_or-eq_default}
 use Rattle.recording_sizes.specs.Sizes.{record_on}
 use Rattle.number.specs.declared.Number.{Number}
-use Rattle.number.specs.declared.Number.TheVariants.{Value, Bad}
+use Rattle.std.specs.Prelude.{Option, Some, None}
+use Rattle.std.specs.Option.{is_some}
 use Rattle.number.specs.Number.{front}
 use Rattle.number.specs.Place.{number_at}
 use Rattle.fault.specs.declared.Spot.{Spot}
@@ -35,14 +36,32 @@ module _ (size : ℕ) (s : List ℕ) (at : ℕ) where
   bytes_cut h = rw (lt-leb (at + size) (length s) h)
 
 -- a number and what comes after it, by what the reader of numbers answered
-module _ (s : List ℕ) (at : ℕ) (more : ℕ → ℕ → Spot) (r : Number) (e : r ≡ number_at s at) where
-  pub number_good : {v n : ℕ} → r ≡ Value v n → more v n ≡ number_then s at more (number_at s at)
+module _ (s : List ℕ) (at : ℕ) (more : ℕ → ℕ → Spot) (r : Option Number) (e : r ≡ number_at s at) where
+  pub number_good : {n : Number} → r ≡ Some n → more n.value n.next ≡ number_then s at more (number_at s at)
   unfolding number_then
   number_good g = ap (number_then s at more) (sym g ∙ e)
 
-  pub number_bad : {w : ℕ} → r ≡ Bad → w ≡ why_bad (front (drop at s)) → spot w at ≡ number_then s at more (number_at s at)
+  pub number_bad : {w : ℕ} → r ≡ None → w ≡ why_bad (front (drop at s)) → spot w at ≡ number_then s at more (number_at s at)
   unfolding number_then
   number_bad g h = ap (λ (x : ℕ). spot x at) h ∙ ap (number_then s at more) (sym g ∙ e)
+
+-- the same, where it was only asked whether there is one
+module _ (s : List ℕ) (at : ℕ) (x : Spot) (r : Option Number) (e : r ≡ number_at s at) where
+  pub number_is : is_some r ≡ true → x ≡ number_then s at (λ v n. x) (number_at s at)
+  unfolding number_then
+  number_is g = go r g ∙ ap (number_then s at (λ v n. x)) e
+    where
+      go : (o : Option Number) → is_some o ≡ true → x ≡ number_then s at (λ v n. x) o
+      go None h = absurd (true≢false (sym h))
+      go (Some n) h = refl
+
+  pub number_is_not : {w : ℕ} → is_some r ≡ false → w ≡ why_bad (front (drop at s)) → spot w at ≡ number_then s at (λ v n. x) (number_at s at)
+  unfolding number_then
+  number_is_not {w} g h = go r g ∙ ap (number_then s at (λ v n. x)) e
+    where
+      go : (o : Option Number) → is_some o ≡ false → spot w at ≡ number_then s at (λ v n. x) o
+      go None q = ap (λ (y : ℕ). spot y at) h
+      go (Some n) q = absurd (true≢false q)
 
 -- an n, and n pieces of raw bytes
 module _ (unit : ℕ) (s : List ℕ) (at n next : ℕ) where

@@ -10,10 +10,9 @@ use Rattle.machine.specs.Step as machine
 use Rattle.edition.specs.Edition.{start_of}
 use Rattle.edition.proofs.Marked.{start_inside}
 use Rattle.events.specs.declared.Event.{Event}
-use Rattle.events.specs.declared.Found.{Found}
-use Rattle.events.specs.declared.Found.TheVariants as found
+use Rattle.std.specs.Prelude.{Some, None}
 use Rattle.events.specs.Events.{read_event}
-use Rattle.events.specs.Found.{event_of, found_of, ReadsEvent}
+use Rattle.events.specs.Found.{Found, event_of, found_of, ReadsEvent}
 use Rattle.events.proofs.Ending.{one_at_least, event_ends}
 use Rattle.fault.specs.declared.Spot.{Spot}
 use Rattle.fault.specs.Fault.{fault, nothing, met, event_fault, fault_from, fault_in}
@@ -64,14 +63,14 @@ module _ {s : List ℕ} {at n : ℕ} (p : Walking s at n) where
 
   module _ (h : at < length s) (r : Found) (a : ReadsEvent s at r) where
     -- a bad event
-    pub stopped : length s ≤ 32768 → r ≡ found.Bad → (x : Spot) → x ≡ event_fault s at → fault x.reason (n + 1) at x.at ≡ fault_in s
+    pub stopped : length s ≤ 32768 → r ≡ None → (x : Spot) → x ≡ event_fault s at → fault x.reason (n + 1) at x.at ≡ fault_in s
     unfolding met
     stopped l q x e =
         let bad : read_event s at ≡ none = sym a.is ∙ ap (λ (f : Found). found_of s f) q in
         ap (λ (y : Spot). fault y.reason (n + 1) at y.at) e ∙ sym (from_on s at n p.turns h p.enough ∙ rw bad) ∙ p.right ∙ sym (not_long s l)
 
     -- a good one
-    pub goes_on : {e : Event} {next : ℕ} → r ≡ found.Good e next → Walking s next (n + 1)
+    pub goes_on : {e : Event} {next : ℕ} → r ≡ Some (e, next) → Walking s next (n + 1)
     unfolding met
     goes_on {e} {next} q =
         let good : read_event s at ≡ some (event_of s e, next) = sym a.is ∙ ap (λ (f : Found). found_of s f) q in
@@ -85,7 +84,7 @@ module _ {s : List ℕ} {at n : ℕ} (p : Walking s at n) where
           right = sym (from_on s at n p.turns h p.enough ∙ rw good) ∙ p.right;
         }
 
-    pub further : {e : Event} {next : ℕ} → r ≡ found.Good e next → (at < next) × (next ≤ length s)
+    pub further : {e : Event} {next : ℕ} → r ≡ Some (e, next) → (at < next) × (next ≤ length s)
     further {e} {next} q =
         let good : read_event s at ≡ some (event_of s e, next) = sym a.is ∙ ap (λ (f : Found). found_of s f) q in
         let ends = event_ends s at (event_of s e) next good in

@@ -1,10 +1,10 @@
 -- Where and why a recording is bad: the first event that `read_event` refuses, and the first part of it that cannot be read. Assumes nothing.
 use Rattle.std.specs.Prelude.{ℕ, zero, suc, ◌+◌, ◌*◌, List, [], ◌∷◌, leb, ltb, eqb, length, get_or, drop, if◌then◌else◌}
+use Rattle.std.specs.Prelude as std
 use Rattle.std.proofs.Math.Option.{Option, none, some}
 use Rattle.recording_sizes.specs.Sizes.{longest, most, on_iso, record_on}
 use Rattle.machine.specs.Step.{Event}
 use Rattle.number.specs.declared.Number.{Number}
-use Rattle.number.specs.declared.Number.TheVariants.{Value, Bad}
 use Rattle.number.specs.Number.{front, shortest}
 use Rattle.number.specs.Place.{number_at}
 use Rattle.edition.specs.Edition.{edition_event, start_of}
@@ -55,9 +55,9 @@ why_bad none = cut_short
 why_bad (some g) = if shortest g then too_large else not_shortest
 
 -- a number, and what comes after it
-unfoldable pub number_then : List ℕ → ℕ → (ℕ → ℕ → Spot) → Number → Spot
-number_then recording at more (Value value next) = more value next
-number_then recording at more Bad = spot (why_bad (front (drop at recording))) at
+unfoldable pub number_then : List ℕ → ℕ → (ℕ → ℕ → Spot) → std.Option Number → Spot
+number_then recording at more (std.Some n) = more n.value n.next
+number_then recording at more std.None = spot (why_bad (front (drop at recording))) at
 
 unfoldable pub number_after : List ℕ → Spot → Spot
 number_after recording = and_then (λ at. number_then recording at (λ value next. spot good next) (number_at recording at))
@@ -82,9 +82,9 @@ pieces_after unit recording = and_then (λ at. number_then recording at (pieces_
 -- ---- an event
 
 -- the number that is told of an event; 0 where there is none
-unfoldable pub told : Number → ℕ
-told (Value value next) = value
-told Bad = 0
+unfoldable pub told : std.Option Number → ℕ
+told (std.Some n) = n.value
+told std.None = 0
 
 -- the channel that an event names before anything else
 unfoldable pub channel_at : List ℕ → Spot → ℕ

@@ -7,9 +7,6 @@ ghost use Rattle.fault.specs.Fault.{told, why_bad, number_after, bytes_after, pi
 ghost use Rattle.number.specs.Number.{front};
 ghost use Rattle.number.specs.Place.{number_at};
 
-use events::Found;
-use number::Number;
-
 // Nothing is wrong.
 pub const GOOD: u32 = 0;
 
@@ -57,8 +54,7 @@ pub struct Fault {
 fn why(recording: &[u8], at: usize) -> u32
     ensures { result ≡ why_bad (front (drop at recording.now)) }
 {
-    let mut place = at;
-    while place < recording.len() {
+    for place in at..recording.len() {
         let byte = recording[place];
         if byte < 128 {
             if (byte == 0) & (at < place) {
@@ -66,7 +62,6 @@ fn why(recording: &[u8], at: usize) -> u32
             }
             return TOO_LARGE;
         }
-        place += 1;
     }
     CUT_SHORT
 }
@@ -75,10 +70,10 @@ fn why(recording: &[u8], at: usize) -> u32
 pub fn number_at(recording: &[u8], at: usize) -> u32
     ensures { result ≡ told (number_at recording.now at) }
 {
-    let Number::Value { value, next: _ } = reader::read_number(recording, at) else {
+    let Some(found) = reader::read_number(recording, at) else {
         return 0;
     };
-    value
+    found.value
 }
 
 // Looks at a number.
@@ -89,13 +84,13 @@ fn number(recording: &[u8], before: Spot) -> Spot
         return before;
     }
     let at = before.at;
-    let Number::Value { value: _, next } = reader::read_number(recording, at) else {
+    let Some(found) = reader::read_number(recording, at) else {
         let reason = why(recording, at);
         return Spot { reason, at };
     };
     Spot {
         reason: GOOD,
-        at: next,
+        at: found.next,
     }
 }
 
@@ -134,11 +129,11 @@ fn pieces(recording: &[u8], before: Spot, unit: usize) -> Spot
         return before;
     }
     let at = before.at;
-    let Number::Value { value, next } = reader::read_number(recording, at) else {
+    let Some(n) = reader::read_number(recording, at) else {
         let reason = why(recording, at);
         return Spot { reason, at };
     };
-    if value > recording_sizes::MOST {
+    if n.value > recording_sizes::MOST {
         return Spot {
             reason: OVER_MOST,
             at,
@@ -146,9 +141,9 @@ fn pieces(recording: &[u8], before: Spot, unit: usize) -> Spot
     }
     let from = Spot {
         reason: GOOD,
-        at: next,
+        at: n.next,
     };
-    bytes(recording, from, unit * (value as usize))
+    bytes(recording, from, unit * (n.value as usize))
 }
 
 // Looks at the record of the flow, which a start of a filter has on channels 5 to 8.
@@ -204,10 +199,10 @@ fn edition_fault(recording: &[u8], at: usize, next: usize) -> Spot
             at,
         };
     }
-    let Number::Value { value: _, next: _ } = reader::read_number(recording, next) else {
+    if reader::read_number(recording, next).is_none() {
         let reason = why(recording, next);
         return Spot { reason, at: next };
-    };
+    }
     Spot {
         reason: OTHER_EDITION,
         at: next,
@@ -218,14 +213,14 @@ fn edition_fault(recording: &[u8], at: usize, next: usize) -> Spot
 pub fn event(recording: &[u8], at: usize) -> Spot
     ensures { result ≡ event_fault recording.now at }
 {
-    let Number::Value { value: kind, next } = reader::read_number(recording, at) else {
+    let Some(kind) = reader::read_number(recording, at) else {
         let reason = why(recording, at);
         return Spot { reason, at };
     };
-    if kind == 0 {
-        return edition_fault(recording, at, next);
+    if kind.value == 0 {
+        return edition_fault(recording, at, kind.next);
     }
-    if kind > 16 {
+    if kind.value > 16 {
         return Spot {
             reason: UNKNOWN,
             at,
@@ -233,9 +228,9 @@ pub fn event(recording: &[u8], at: usize) -> Spot
     }
     let from = Spot {
         reason: GOOD,
-        at: next,
+        at: kind.next,
     };
-    arguments(recording, from, kind)
+    arguments(recording, from, kind.value)
 }
 
 // Finds the first bad event of a recording behind its mark, if it has one.
@@ -250,11 +245,12 @@ pub fn find(recording: &[u8]) -> Fault
             at: recording_sizes::LONGEST,
         };
     }
+    // the next event begins where this one ends, which no `for` counts
     let mut at = edition::start_of(recording);
     let mut n = 0;
     while at < recording.len() {
         n += 1;
-        let Found::Good(_, next) = event_reader::read_event(recording, at) else {
+        let Some((_, next)) = event_reader::read_event(recording, at) else {
             let spot = event(recording, at);
             return Fault {
                 reason: spot.reason,

@@ -3,7 +3,7 @@ use mathlib.Core.Path.{◌≡◌, sym, ap, subst, ◌∙◌}
 use Prim.Native.Nat.{ℕ}
 use native.Mathlib.Omega.{arith}
 use mathlib.Core.List.{List, ◌++◌}
-use lib.ListN.{length, take, drop, length-drop}
+use lib.ListN.{take, drop}
 use lib.Seq.{length-take-le}
 use lib.Dec.{T}
 use Rattle.codec.proofs.Tests.{left}
@@ -12,7 +12,7 @@ use Rattle.derived.proofs.Derive.{derived_only}
 use Rattle.map_rule.specs.Map.{maps_size, maps}
 use Rattle.map_rule.proofs.ByMap.{maps_long}
 use Rattle.machine.specs.Filter.{Slots, Filter}
-use Rattle.layout.specs.Sizes.{filters_size, mapped_size}
+use Rattle.layout.specs.Sizes.{filters_size}
 use Rattle.layout.specs.Memory.{filters, mapped}
 use Rattle.layout.proofs.Memory.{filters_lawful}
 use Rattle.layout.proofs.Sizes.{filters_size_law}

@@ -17,9 +17,7 @@ pub fn row(mem: &[u8], at: usize, size: usize) -> [u8; ROW]
     ensures { result ≡ twelve (take size (drop at mem.now)) }
 {
     let mut out = [0u8; ROW];
-    for b in 0..size {
-        out[b] = mem[at + b];
-    }
+    out[..size].copy_from_slice(&mem[at..at + size]);
     out
 }
 
@@ -28,14 +26,12 @@ pub fn first_free(part: &[u8]) -> usize
     requires { FilterPart part.now }
     ensures { (flags : ℕ) → result ≡ free ((filters flags).get part.now) }
 {
-    let mut i = 0;
-    while i < PLACES {
+    for i in 0..PLACES {
         if part[i] == 0 {
             return i;
         }
-        i += 1;
     }
-    i
+    PLACES
 }
 
 // Another filter, or none, at a place: its type, its width, its size and its rows, each in its column.

@@ -2,10 +2,12 @@
 #![tactic(auto)]
 
 ghost use Rattle.std.specs.Prelude.{◌≡◌};
+ghost use Rattle.codes.specs.Code.{code_of};
 ghost use Rattle.codec.specs.Plain.{within};
 ghost use Rattle.machine.specs.Filter.{free};
 ghost use Rattle.machine.specs.Channel.{Open, filter_code};
 
+use codes::Refusal;
 use places::{PLACES, RECORD, ROW, SIZE_IN, TX_FLAGS_IN};
 
 // The most data bytes that a filter compares.
@@ -18,23 +20,29 @@ pub fn between(from: u32, to: u32, n: u32) -> bool
     (from <= n) & (n <= to)
 }
 
-// The code of a start, where `place` is the first empty place: the checks in their order.
-pub fn start_code(flags: u32, kind: u32, mask: &[u8], pattern: &[u8], place: usize) -> u32
-    ensures { (o : Open) → o.config.flags ≡ flags → free o.filters ≡ place → result ≡ filter_code o kind mask.now pattern.now }
+// The checks of a start in their order, where `place` is the first empty place.
+pub fn start_code(
+    flags: u32,
+    kind: u32,
+    mask: &[u8],
+    pattern: &[u8],
+    place: usize,
+) -> Result<(), Refusal>
+    ensures { (o : Open) → o.config.flags ≡ flags → free o.filters ≡ place → code_of result ≡ filter_code o kind mask.now pattern.now }
 {
     if mask.len() < RECORD {
-        return codes::ERR_NULL_PARAMETER;
+        return Err(Refusal::NullParameter);
     }
     if pattern.len() < RECORD {
-        return codes::ERR_NULL_PARAMETER;
+        return Err(Refusal::NullParameter);
     }
     if !between(1, 2, kind) {
-        return codes::ERR_INVALID_FILTER_ID;
+        return Err(Refusal::InvalidFilterId);
     }
     if (integers::word_at(mask, 0) != can::PROTOCOL)
         | (integers::word_at(pattern, 0) != can::PROTOCOL)
     {
-        return codes::ERR_MSG_PROTOCOL_ID;
+        return Err(Refusal::MsgProtocolId);
     }
     let size = integers::word_at(mask, SIZE_IN);
     let tx = integers::word_at(mask, TX_FLAGS_IN);
@@ -42,10 +50,10 @@ pub fn start_code(flags: u32, kind: u32, mask: &[u8], pattern: &[u8], place: usi
         & (tx == integers::word_at(pattern, TX_FLAGS_IN));
     let fits = between(1, MOST_SIZE, size) & can::takes_width(flags, tx / 0x100 % 2 == 1);
     if !(same & fits) {
-        return codes::ERR_INVALID_MSG;
+        return Err(Refusal::InvalidMsg);
     }
     if place >= PLACES {
-        return codes::ERR_EXCEEDED_LIMIT;
+        return Err(Refusal::ExceededLimit);
     }
-    codes::STATUS_NOERROR
+    Ok(())
 }

@@ -46,6 +46,14 @@ module _ (r : List ℕ) (f : Opened r) where
   pub flags_are : word_at 1 r ≡ (open_of r).config.flags
   flags_are = word_of (flags_part r f)
 
+  -- what code found is the first empty place, and so what it found is the code of a start
+  pub place_is : (place : ℕ) → ((flags : ℕ) → place ≡ free ((filters flags).get (take filters_size (drop filters_at r)))) → place ≡ free (open_of r).filters
+  place_is place p = p 0 ∙ ap free (held_is r f 0)
+
+  pub code_is : (kind : ℕ) (mask pattern : List ℕ) (flags place code : ℕ) → flags ≡ word_at 1 r → place ≡ free (open_of r).filters
+      → ((o : Open) → o.config.flags ≡ flags → free o.filters ≡ place → code ≡ filter_code o kind mask pattern) → code ≡ filter_code (open_of r) kind mask pattern
+  code_is kind mask pattern flags place code w p k = k (open_of r) (sym (w ∙ flags_are)) (sym p)
+
   ten_places : length (open_of r).filters ≡ most_places
   ten_places = ap length (sym (held_is r f 0)) ∙ ten_held (take filters_size (drop filters_at r)) (part_lent r f) 0
 

@@ -2,6 +2,7 @@
 #![tactic(auto)]
 
 ghost use Rattle.std.specs.Prelude.{◌≡◌, List, [], ℕ, ◌<◌, set};
+ghost use Rattle.codes.specs.Code.{code_of, value_of};
 ghost use Rattle.std.proofs.Math.Option.{some};
 ghost use Rattle.machine.specs.Limits.{most_places};
 ghost use Rattle.machine.specs.Channel.{filter_of, start_filter, stop_filter};
@@ -10,7 +11,7 @@ ghost use Rattle.layout.specs.Promise.{Opened, gives, call_outcome};
 ghost use Rattle.filterbank.specs.Part.{FilterPart};
 ghost use Rattle.filtercheck.specs.Checked.{Checked};
 
-use codes::Answer;
+use codes::Refusal;
 use places::{DATA_IN, FILTERS, FLAGS, MAPS, PERIODICS, PLACES, ROW, SIZE_IN, TX_FLAGS_IN};
 
 // The largest number of a filter.
@@ -37,40 +38,31 @@ pub fn put_filter(part: &mut [u8], i: usize, kind: u32, mask: &[u8], pattern: &[
 }
 
 // Start a filter on an open channel's region: its number is the smallest free one, and the maps follow.
-pub fn start_filter(r: &mut [u8], kind: u32, mask: &[u8], pattern: &[u8]) -> Answer
+pub fn start_filter(r: &mut [u8], kind: u32, mask: &[u8], pattern: &[u8]) -> Result<u32, Refusal>
     requires { Opened r.old }
-    ensures { (rates : List ℕ) (t : ℕ) → gives result.code result.value [] r.new ≡ call_outcome rates t r.old (start_filter kind mask.now pattern.now) }
+    ensures { (rates : List ℕ) (t : ℕ) → gives (code_of result) (value_of result) [] r.new ≡ call_outcome rates t r.old (start_filter kind mask.now pattern.now) }
 {
     let place = filterbank::first_free(&r[FILTERS..MAPS]);
-    let code = filtercheck::start_code(integers::word_at(r, FLAGS), kind, mask, pattern, place);
-    if code != codes::STATUS_NOERROR {
-        return Answer {
-            code: code,
-            value: 0,
-        };
-    }
+    filtercheck::start_code(integers::word_at(r, FLAGS), kind, mask, pattern, place)?;
     put_filter(&mut r[FILTERS..MAPS], place, kind, mask, pattern);
     maps::remake(&mut r[FILTERS..PERIODICS]);
-    Answer {
-        code: codes::STATUS_NOERROR,
-        value: place as u32 + 1,
-    }
+    Ok(place as u32 + 1)
 }
 
 // Stop the filter of a number: its place is empty again, and the maps follow.
-pub fn stop_filter(r: &mut [u8], number: u32) -> u32
+pub fn stop_filter(r: &mut [u8], number: u32) -> Result<(), Refusal>
     requires { Opened r.old }
-    ensures { (rates : List ℕ) (t : ℕ) → gives result 0 [] r.new ≡ call_outcome rates t r.old (stop_filter number) }
+    ensures { (rates : List ℕ) (t : ℕ) → gives (code_of result) 0 [] r.new ≡ call_outcome rates t r.old (stop_filter number) }
 {
     if !filtercheck::between(1, MOST_NUMBER, number) {
-        return codes::ERR_INVALID_FILTER_ID;
+        return Err(Refusal::InvalidFilterId);
     }
     let i = number as usize - 1;
     if r[FILTERS + i] == 0 {
-        return codes::ERR_INVALID_FILTER_ID;
+        return Err(Refusal::InvalidFilterId);
     }
     let none = [0u8; ROW];
     filterbank::put_place(&mut r[FILTERS..MAPS], i, 0, false, 0, &none, &none);
     maps::remake(&mut r[FILTERS..PERIODICS]);
-    codes::STATUS_NOERROR
+    Ok(())
 }

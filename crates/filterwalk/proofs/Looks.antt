@@ -15,7 +15,7 @@ use lib.Bits.{bit_and}
 use borrow.Author.Tests.{eqb-true, eqb-false, eq-eqb, ne_eqb, le-leb, lt-leb, not-true}
 use Rattle.codec.specs.Plain.{all_below}
 use Rattle.machine.specs.Limits.{most_places}
-use Rattle.machine.specs.Filter.{Slots, Filter, any_slot, matches, hits, passes}
+use Rattle.machine.specs.Filter.{Slots, Filter, any_slot, matches, hits}
 use Rattle.machine.proofs.Slots.{any_none, any_some, any_end}
 use Rattle.layout.specs.Sizes.{widths_in, sizes_in}
 use Rattle.filterwalk.specs.Columns.{Heads, EmptyFrom, none_of, filter_at, filters_in, passes_with}

@@ -31,15 +31,12 @@ pub fn end_of(heads: &[u8]) -> usize
     requires { length heads.now ≡ masks_in }
     ensures { (result ≤ most_places) × EmptyFrom heads.now result }
 {
-    let mut end = PLACES;
-    while end > 0 {
-        let last = end - 1;
+    for last in (0..PLACES).rev() {
         if heads[last] != 0 {
-            return end;
+            return last + 1;
         }
-        end = last;
     }
-    end
+    0
 }
 
 // Does a filter of this type and of the frame's width match the first `len` bytes of a row? A longer one doesn't. Of the heads the first ten are the types, then ten width marks and ten sizes. The
@@ -57,10 +54,7 @@ pub fn hits(
     requires { Heads heads.now × (1 ≤ kind) × (kind ≤ 2) × (len ≤ length frame.now) × (end ≤ most_places) × EmptyFrom heads.now end }
     ensures { result ≡ some_hits (eqb kind 2) (filters_in heads.now masks.now patterns.now) wide (take len frame.now) }
 {
-    let mut next = 0;
-    'filters: while next < end {
-        let f = next;
-        next += 1;
+    'filters: for f in 0..end {
         if heads[f] != kind {
             continue;
         }

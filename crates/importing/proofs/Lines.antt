@@ -13,9 +13,19 @@ use Rattle.text_reader.specs.Reading.{before}
 use Rattle.text_reader.proofs.Finding.{found_inside}
 use Rattle.candump.specs.Line.{second, Logged, Said, malformed, unknown, tells, line_in}
 use Rattle.candump.specs.Log.{latest, newline, glue, lines_of, bytes_all, line_events, frame_of, event_bytes, advances, room, is_malformed, is_unknown, goes_back, does_not_fit, Import, whole, stopped, taking, importing, imported}
+use Rattle.candump.specs.Stops.{reason_of}
+use Rattle.candump.specs.declared.Stop.{Stop}
+use Rattle.candump.specs.declared.Stop.TheVariants.{Malformed, Unknown, GoesBack, NoRoom}
 use Rattle.importing.specs.Step.{Left, left, put_at, line_step}
 use Rattle.importing.specs.Promise.{Answer, answers, written}
 use Rattle.importing.proofs.Far.{line_bytes, covers}
+
+-- a reason is never 0
+pub reason_some : (why : Stop) → reason_of why ≡ 0 → ⊥
+reason_some Malformed e = omega arith
+reason_some Unknown e = omega arith
+reason_some GoesBack e = omega arith
+reason_some NoRoom e = omega arith
 
 -- ---- the first line of a text
 

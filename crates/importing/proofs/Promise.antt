@@ -8,7 +8,6 @@ use lib.Dec.{ltb}
 use lib.ListN.{length}
 use Rattle.candump.specs.Log.{latest, room, imported}
 use Rattle.importing.specs.Promise.{Answer, answers, written, imports}
-use Rattle.importing.specs.declared.Imported.{Imported}
 
 module _ (start : ℕ) (log buffer : List ℕ) where
   pub no_room : length buffer < room → answers 0x04 0 0 0 buffer ≡ imports start log buffer
@@ -23,8 +22,3 @@ module _ (start : ℕ) (log buffer : List ℕ) where
     pub is_import : start ≤ latest → written (imported start log) buffer ≡ imports start log buffer
     unfolding imports
     is_import h = sym (rw (le-ltb (length buffer) room long, le-ltb latest start h))
-
--- what was refused, in the promise's words
-pub nothing_taken : (r : Imported) (code : ℕ) (buffer : List ℕ) → (r.code ≡ code) × (r.length ≡ 0) × (r.line ≡ 0) × (r.reason ≡ 0)
-    → answers r.code r.length r.line r.reason buffer ≡ answers code 0 0 0 buffer
-nothing_taken r code buffer e = rw (e.0, e.1, e.2, e.3)

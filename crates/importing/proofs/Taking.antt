@@ -12,18 +12,24 @@ use lib.ListN.{length, take, drop, length-drop}
 use Rattle.machine.specs.Limits.{most_bytes, last_line}
 use Rattle.machine.specs.Step.{Event, frame}
 use Rattle.candump.specs.Line.{second, Logged, Good, Said, malformed, unknown, tells, only, data_in, few_in, line_in}
-use Rattle.candump.specs.Log.{room, event_bytes, bytes_all, advances, frame_of, line_events, goes_back, does_not_fit}
+use Rattle.candump.specs.Log.{latest, room, event_bytes, bytes_all, advances, frame_of, line_events, goes_back, does_not_fit}
 use Rattle.candump.proofs.Line.{line_good}
 use Rattle.candump.proofs.Cost.{bytes_append}
 use Rattle.answers.specs.Put.{Put}
 use Rattle.answers.proofs.Put.{put_same, put_length, put_then}
-use Rattle.log_reader.specs.Reading.{data_of, DataThere, meaning, near_logged, near_said, There, Reads}
-use Rattle.log_reader.specs.declared.Line.{Line}
-use Rattle.log_reader.specs.declared.Line.TheVariants.{Tells}
+use Rattle.log_reader.specs.Reading.{data_of, DataThere, frame_told, meaning, near_logged, near_said, There, Reads, stop_of, StopsAs}
+use Rattle.std.specs.Prelude as std
+use Rattle.log_reader.specs.declared.Logged as lines
+use Rattle.log_reader.specs.declared.LineError.{LineError}
+use Rattle.log_reader.specs.declared.LineError.TheVariants.{Malformed, Unknown}
+use Rattle.std.specs.Result.{IsErrAnd}
+use Rattle.candump.specs.declared.Stop.{Stop}
+use Rattle.candump.specs.Stops.{reason_of}
+use Rattle.importing.specs.declared.Step.{Step}
 use Rattle.log_reader.proofs.Framing.{rest_lent}
 use Rattle.log_events.specs.Data.{GoodData, mark_of}
-use Rattle.importing.specs.Step.{Left, left, logged_as, put_at, line_step}
-use Rattle.importing.proofs.Far.{line_bytes}
+use Rattle.importing.specs.Step.{Left, left, stepped, logged_as, put_at, line_step}
+use Rattle.importing.proofs.Far.{line_bytes, near_step}
 
 -- ---- what was read
 
@@ -57,24 +63,33 @@ bus_of text g = by (line_in text) refl
         let same : g ≡ near_logged f = cc in
         omega (arith, ap (λ (x : Logged). x.line) same, (line_good text f q).bus)
 
-pub is_told : (text : List ℕ) (r : Line) (t line : ℕ) (wide : Bool) (id from : ℕ) → Reads text r → r ≡ Tells t line wide id from → Told text line from
-unfolding meaning
-is_told text r t line wide id from k e =
-    let there : DataThere text from = subst (There text) e k.there in
-    let d = few_data (drop from text) (data_of (drop from text)) there.1 in
-    record {
-      inside = there.0;
-      good = subst GoodData (sym (rest_lent text from)) d.0;
-      few = subst (λ (l : List ℕ). length (data_of l) ≤ most_bytes) (sym (rest_lent text from)) d.1;
-      bus = bus_of text (logged_as t line wide id (data_of (drop from text))) (sym (ap (meaning text) e) ∙ k.is);
-    }
+module _ (text : List ℕ) (r : lines.Logged) (k : Reads text (std.Ok r)) where
+  pub is_told : Told text r.line r.digits
+  unfolding meaning frame_told
+  is_told =
+      let d = few_data (drop r.digits text) (data_of (drop r.digits text)) k.there.1 in
+      record {
+        inside = k.there.0;
+        good = subst GoodData (sym (rest_lent text r.digits)) d.0;
+        few = subst (λ (l : List ℕ). length (data_of l) ≤ most_bytes) (sym (rest_lent text r.digits)) d.1;
+        bus = bus_of text (frame_told text r) k.is;
+      }
 
--- and it is what the reader says
-pub told_is : (text : List ℕ) (r : Line) (t line : ℕ) (wide : Bool) (id from : ℕ) → Reads text r → r ≡ Tells t line wide id from
-    → tells (logged_as t line wide id (data_of (take (length text - from) (drop from text)))) ≡ near_said (line_in text)
-unfolding meaning
-told_is text r t line wide id from k e =
-    ap (λ (l : List ℕ). tells (logged_as t line wide id (data_of l))) (rest_lent text from) ∙ sym (ap (meaning text) e) ∙ k.is
+  -- and it is what the reader says
+  pub told_is : tells (logged_as r.time r.line r.identifier.wide r.identifier.id (data_of (take (length text - r.digits) (drop r.digits text)))) ≡ near_said (line_in text)
+  unfolding meaning frame_told
+  told_is = ap (λ (l : List ℕ). tells (logged_as r.time r.line r.identifier.wide r.identifier.id (data_of l))) (rest_lent text r.digits) ∙ k.is
+
+-- a line that tells nothing stops the import
+pub stopped_line : (time place : ℕ) (out text : List ℕ) → time ≤ latest + second * room → (why : LineError) → Reads text (std.Err why) → (r : std.Result Step Stop) → IsErrAnd r (StopsAs why)
+    → stepped time place r out ≡ line_step time place out (line_in text)
+unfolding line_step meaning
+stopped_line time place out text early why reads (std.Ok s) h = absurd h
+stopped_line time place out text early why reads (std.Err e) h = ap (λ (s : Stop). left (reason_of s) place time out) h ∙ by why reads
+  where
+    by : (w : LineError) → Reads text (std.Err w) → left (reason_of (stop_of w)) place time out ≡ line_step time place out (line_in text)
+    by Malformed k = ap (line_step time place out) k.is ∙ near_step time place out early (line_in text)
+    by Unknown k = ap (line_step time place out) k.is ∙ near_step time place out early (line_in text)
 
 -- ---- its events
 

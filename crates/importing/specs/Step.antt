@@ -1,7 +1,10 @@
 -- What one line does to a recording that stands at the start of a lent buffer. Assumes nothing.
-use Rattle.std.specs.Prelude.{ℕ, ◌+◌, Bool, List, ◌++◌, ltb, length, take, drop, if◌then◌else◌}
+use Rattle.std.specs.Prelude.{ℕ, ◌+◌, Bool, List, ◌++◌, ltb, length, take, drop, if◌then◌else◌, Result, Ok, Err}
 use Rattle.candump.specs.Line.{Logged, Said, malformed, unknown, tells}
 use Rattle.candump.specs.Log.{bytes_all, line_events, room, is_malformed, is_unknown, goes_back, does_not_fit}
+use Rattle.candump.specs.Stops.{reason_of}
+use Rattle.candump.specs.declared.Stop.{Stop}
+use Rattle.importing.specs.declared.Step.{Step}
 
 -- why the line stops the import, 0 where it doesn't; the place after the recording; the time of the last line; the buffer
 pub record Left : Type 0 where
@@ -12,6 +15,11 @@ pub record Left : Type 0 where
 
 abbrev pub left : ℕ → ℕ → ℕ → List ℕ → Left
 left r p t b = record { reason = r; place = p; time = t; buffer = b }
+
+-- what code answers for a line behind one of a time, at a place: one that stops the import leaves both
+abbrev pub stepped : ℕ → ℕ → Result Step Stop → List ℕ → Left
+stepped time place (Ok s) buffer = left 0 s.place s.time buffer
+stepped time place (Err why) buffer = left (reason_of why) place time buffer
 
 abbrev pub logged_as : ℕ → ℕ → Bool → ℕ → List ℕ → Logged
 logged_as t l w n b = record { time = t; line = l; wide = w; id = n; bytes = b }

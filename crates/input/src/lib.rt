@@ -9,24 +9,18 @@ use std::io::{ErrorKind, Read};
 // One byte more than a recording may have: it tells an overlong one, and nothing past it is read.
 pub const READ: usize = recording_sizes::LONGEST + 1;
 
-// Where one read more leaves the input: so many bytes are there, or it has ended.
-#[derive(Drop)]
-enum Input {
-    More(usize),
-    Ended,
-}
-
-// Reads once behind the first `at` bytes. A read that a signal interrupted has read nothing, and can be tried again.
-fn read_more<R: Read>(reader: &mut R, buffer: &mut [u8], at: usize) -> io::Result<Input> {
+// Reads once behind the first `at` bytes and says how many are there then, or that the input has ended. A read that a signal interrupted has read
+// nothing, and can be tried again.
+fn read_more<R: Read>(reader: &mut R, buffer: &mut [u8], at: usize) -> io::Result<Option<usize>> {
     if at >= buffer.len() {
-        return Ok(Input::Ended);
+        return Ok(None);
     }
     match reader.read(&mut buffer[at..]) {
-        Ok(0) => Ok(Input::Ended),
-        Ok(n) => Ok(Input::More(at + n)),
+        Ok(0) => Ok(None),
+        Ok(n) => Ok(Some(at + n)),
         Err(e) => {
             if e.kind() == ErrorKind::Interrupted {
-                return Ok(Input::More(at));
+                return Ok(Some(at));
             }
             Err(e)
         }
@@ -37,8 +31,8 @@ fn read_more<R: Read>(reader: &mut R, buffer: &mut [u8], at: usize) -> io::Resul
 pub fn read_all<R: Read>(reader: &mut R, buffer: &mut [u8], size: &mut usize) -> io::Result<()> {
     for _ in 0..u64::MAX {
         match read_more(reader, buffer, *size)? {
-            Input::More(n) => *size = n,
-            Input::Ended => return Ok(()),
+            Some(n) => *size = n,
+            None => return Ok(()),
         }
     }
     Err(io::Error::from(ErrorKind::Other))

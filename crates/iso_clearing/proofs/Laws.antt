@@ -1,14 +1,14 @@
 -- Stopping and clearing, on the region of an open ISO 15765 channel: the answers of `iso`. Assumes nothing.
 use Rattle.std.specs.Prelude.{if◌then◌else◌}
 use mathlib.Core.Path.{◌≡◌, refl, sym, ap, ◌∙◌}
-use Prim.Native.Nat.{ℕ, suc, ◌+◌, ◌-◌, ◌*◌, ◌≤◌, ◌<◌}
+use Prim.Native.Nat.{ℕ, ◌+◌, ◌-◌, ◌*◌, ◌≤◌, ◌<◌}
 use native.Mathlib.Omega.{arith}
 use mathlib.Core.Bool.{Bool, true, false}
 use mathlib.Core.Option.{Option, none, some}
 use mathlib.Core.List.{List, []}
 use lib.ListN.{length, get_or, set, take, drop}
-use lib.Dec.{T, eqb}
-use borrow.Author.Tests.{eq-eqb, ne_eqb}
+use lib.Dec.{T}
+use borrow.Author.Tests.{ne_eqb}
 use borrow.Rule.Slice.PartMut.{put_mid}
 use Rattle.codec.specs.Plain.{within, zeros}
 use Rattle.codec.specs.Code.{Code, byte, word32, both, both_on, via, such, mark, many, slot, up_to}
@@ -18,7 +18,7 @@ use Rattle.codec.proofs.Part.{Part, byte_of}
 use Rattle.machine.specs.Codes.{code_of}
 use Rattle.machine.specs.Filter.{Slots, taken, has}
 use Rattle.machine.proofs.Slots.{has_place, has_none}
-use Rattle.machine.specs.Channel.{Receiving, says, clear, stop_filter}
+use Rattle.machine.specs.Channel.{Receiving, clear, stop_filter}
 use Rattle.layout.specs.Memory.{config}
 use Rattle.layout.specs.Promise.{gives}
 use Rattle.iso.specs.Limits.{most_talks, most_messages}

@@ -1,23 +1,22 @@
 -- What connecting and disconnecting do to the bytes of a region is what `iso` does to the channel. Assumes nothing.
 use mathlib.Core.Path.{◌≡◌, refl, sym, ap, ◌∙◌}
-use Prim.Native.Nat.{ℕ, zero, suc, ◌+◌, ◌-◌}
+use Prim.Native.Nat.{ℕ, zero, suc, ◌+◌}
 use native.Mathlib.Omega.{arith}
 use mathlib.Core.Bool.{Bool, true, false, not}
 use mathlib.Core.List.{List, [], ◌∷◌, ◌++◌}
-use lib.ListN.{length, get_or, set}
+use lib.ListN.{length, get_or, drop}
 use lib.Dec.{T, eqb}
 use borrow.Author.Tests.{eq-eqb, ne_eqb}
-use borrow.Rule.Slice.PartMut.{put_mid}
 use Rattle.codec.specs.Plain.{member, zeros}
 use Rattle.codec.specs.Word.{word}
 use Rattle.machine.specs.Codes.{code_of}
 use Rattle.machine.specs.Channel.{says, listens, is_flags, connect_code, disconnect}
-use Rattle.layout.specs.Sizes.{flags_at, rate_at, loopback_at, number_size}
+use Rattle.layout.specs.Sizes.{loopback_at}
 use Rattle.layout.specs.Promise.{gives}
 use Rattle.layout.proofs.Held.{listener_not_plain, raw_or_plain}
 use Rattle.machine.proofs.Tables as tables
 use Rattle.iso.specs.Limits.{iso_protocol, first_iso}
-use Rattle.iso.specs.Iso.{Iso, shut, ready, IsoOutcome, unless_iso, did, is_ready, iso_connect_code, fresh_iso, on_iso_connect, on_ready}
+use Rattle.iso.specs.Iso.{Iso, shut, IsoOutcome, unless_iso, did, is_ready, iso_connect_code, fresh_iso, on_iso_connect, on_ready}
 use Rattle.iso_layout.specs.Sizes.{iso_region_size}
 use Rattle.iso_layout.specs.Region.{iso_region}
 use Rattle.iso_layout.specs.Promise.{IsoOpened, iso_gives, iso_outcome}
@@ -73,11 +72,6 @@ shut_code : (c : Iso) → c ≡ shut → code_of ((is_ready c, 0x14) ∷ []) ≡
 unfolding code_of is_ready
 shut_code c e = ap (λ (x : Iso). code_of ((is_ready x, 0x14) ∷ [])) e
 
--- the mark, the flags and the rate stored over zeros
-stored : (f r : ℕ) → set (put_mid rate_at number_size (put_mid flags_at number_size (zeros iso_region_size) (word f)) (word r)) 0 1 ≡ 1 ∷ (word f ++ (word r ++ zeros (iso_region_size - loopback_at)))
-unfolding word
-stored f r = refl
-
 module _ (m : List ℕ) (h : length m ≡ iso_region_size) (v : T (iso_region.valid m)) (rates : List ℕ) (line p f r : ℕ) where
   abbrev c : Iso
   c = iso_region.get m
@@ -101,14 +95,13 @@ module _ (m : List ℕ) (h : length m ≡ iso_region_size) (v : T (iso_region.va
   pub connect_in_use : 0 ≡ iso_connect_code rates p f r [] → (get_or m 0 0 ≡ 0 → ⊥) → gives 0x14 0 [] m ≡ iso_gives (on_iso_connect rates (iso_region.get m) line p f r)
   connect_in_use e n = refused 0x14 (λ z. omega arith) (more_tests rates p f r _ (sym e) ∙ in_use_code c (opened_at n))
 
-  pub connect_fresh : 0 ≡ iso_connect_code rates p f r [] → get_or m 0 0 ≡ 0 → (fs rs : List ℕ) → fs ≡ word f → rs ≡ word r
-      → gives 0 (line + first_iso) [] (set (put_mid rate_at number_size (put_mid flags_at number_size m fs) rs) 0 1) ≡ iso_gives (on_iso_connect rates (iso_region.get m) line p f r)
+  pub connect_fresh : 0 ≡ iso_connect_code rates p f r [] → get_or m 0 0 ≡ 0
+      → gives 0 (line + first_iso) [] (1 ∷ (word f ++ (word r ++ drop loopback_at m))) ≡ iso_gives (on_iso_connect rates (iso_region.get m) line p f r)
   unfolding iso_gives on_iso_connect did says
-  connect_fresh e z fs rs ef er =
-      let zs : m ≡ zeros iso_region_size = shut_bytes m h v z in
+  connect_fresh e z =
       let k : code_there ≡ 0 = more_tests rates p f r _ (sym e) ∙ shut_code c (is_shut m h v z) in
-      (λ i. gives 0 (line + first_iso) [] (set (put_mid rate_at number_size (put_mid flags_at number_size (zs i) (ef i)) (er i)) 0 1))
-      ∙ ap (λ (x : List ℕ). gives 0 (line + first_iso) [] x) (stored f r ∙ sym (fresh_iso_is f r))
+      ap (λ (x : List ℕ). gives 0 (line + first_iso) [] (1 ∷ (word f ++ (word r ++ drop loopback_at x)))) (shut_bytes m h v z)
+      ∙ ap (λ (x : List ℕ). gives 0 (line + first_iso) [] x) (sym (fresh_iso_is f r))
       ∙ sym (ap iso_gives (unless_none _ c [] (did (fresh_iso f r) (line + first_iso)) k))
 
 -- ---- disconnect

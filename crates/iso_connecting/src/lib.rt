@@ -2,6 +2,7 @@
 #![tactic(auto)]
 
 ghost use Rattle.std.specs.Prelude.{◌≡◌, List, [], ℕ, ◌<◌, T, length};
+ghost use Rattle.codes.specs.Code.{code_of, value_of};
 ghost use Rattle.machine.specs.Limits.{lines};
 ghost use Rattle.machine.specs.Channel.{disconnect};
 ghost use Rattle.layout.specs.Promise.{gives};
@@ -10,21 +11,20 @@ ghost use Rattle.iso_layout.specs.Sizes.{iso_region_size};
 ghost use Rattle.iso_layout.specs.Region.{iso_region};
 ghost use Rattle.iso_layout.specs.Promise.{IsoOpened, iso_gives, iso_outcome};
 
-use codes::Answer;
+use codes::Refusal;
 
 // The channel number of line 0.
 const FIRST: u32 = 5;
 
-// The code of a connect by its protocol, flags and rate, which is one of those lent: but for the protocol and the listeners' flag the tests of any
-// connect.
-pub fn connect_code(rates: &[u32], protocol: u32, flags: u32, rate: u32) -> u32
-    ensures { result ≡ iso_connect_code rates.now protocol flags rate [] }
+// The checks of a connect by its protocol, flags and rate: but for the protocol and the listeners' flag those of any connect.
+pub fn connect_code(rates: &[u32], protocol: u32, flags: u32, rate: u32) -> Result<(), Refusal>
+    ensures { code_of result ≡ iso_connect_code rates.now protocol flags rate [] }
 {
     if protocol != iso_records::PROTOCOL {
-        return codes::ERR_INVALID_PROTOCOL_ID;
+        return Err(Refusal::InvalidProtocolId);
     }
     if can::listens(flags) {
-        return codes::ERR_INVALID_FLAGS;
+        return Err(Refusal::InvalidFlags);
     }
     connecting::connect_code(rates, can::PROTOCOL, flags, rate)
 }
@@ -37,27 +37,13 @@ pub fn connect_in(
     protocol: u32,
     flags: u32,
     rate: u32,
-) -> Answer
+) -> Result<u32, Refusal>
     requires { (length r.old ≡ iso_region_size) × T (iso_region.valid r.old) × (line < lines) }
-    ensures { gives result.code result.value [] r.new ≡ iso_gives (on_iso_connect rates.now (iso_region.get r.old) line protocol flags rate) }
+    ensures { gives (code_of result) (value_of result) [] r.new ≡ iso_gives (on_iso_connect rates.now (iso_region.get r.old) line protocol flags rate) }
 {
-    let code = connect_code(rates, protocol, flags, rate);
-    if code != codes::STATUS_NOERROR {
-        return Answer { code, value: 0 };
-    }
-    if r[0] != 0 {
-        return Answer {
-            code: codes::ERR_CHANNEL_IN_USE,
-            value: 0,
-        };
-    }
-    integers::put_word(&mut r[places::FLAGS..places::RATE], flags);
-    integers::put_word(&mut r[places::RATE..places::LOOPBACK], rate);
-    r[0] = 1;
-    Answer {
-        code: codes::STATUS_NOERROR,
-        value: line + FIRST,
-    }
+    connect_code(rates, protocol, flags, rate)?;
+    connecting::open(r, flags, rate)?;
+    Ok(line + FIRST)
 }
 
 // Disconnect: the region becomes zeros.

@@ -2,6 +2,7 @@
 #![tactic(auto)]
 
 ghost use Rattle.std.specs.Prelude.{◌≡◌, List, [], ℕ, ◌≤◌, length, get_or};
+ghost use Rattle.codes.specs.Code.{code_of};
 ghost use Rattle.machine.specs.Channel.{sent as sent_of};
 ghost use Rattle.layout.specs.Promise.{gives};
 ghost use Rattle.iso.specs.Limits.{most_payload};
@@ -12,6 +13,7 @@ ghost use Rattle.iso_layout.specs.Promise.{IsoOpened, iso_outcome};
 ghost use Rattle.talk_message.specs.Sent.{messages};
 ghost use Rattle.iso_landing.specs.Landing.{channel_in, arrives, Holds, ended_by, landed_by};
 
+use codes::Refusal;
 use iso_places::{FLIGHT, HEARD, LAST, MOST_PAYLOAD, TALK_SIZE, TALKS_AT};
 use talk_message::Sent;
 
@@ -76,16 +78,16 @@ fn land(r: &mut [u8])
 }
 
 // Sent: what was in flight has landed, and what it ends is told.
-pub fn sent(r: &mut [u8], clock: u32) -> u32
+pub fn sent(r: &mut [u8], clock: u32) -> Result<(), Refusal>
     requires { IsoOpened r.old }
-    ensures { (rates : List ℕ) → gives result 0 [] r.new ≡ iso_outcome rates clock r.old sent_of }
+    ensures { (rates : List ℕ) → gives (code_of result) 0 [] r.new ≡ iso_outcome rates clock r.old sent_of }
 {
     if r[FLIGHT] == 0 {
-        return codes::ERR_FAILED;
+        return Err(Refusal::Failed);
     }
     let mut buffer = [0u8; MOST_PAYLOAD];
     let m = message(r, &mut buffer);
     land(r);
     done(r, clock, m, &buffer);
-    codes::STATUS_NOERROR
+    Ok(())
 }

@@ -2,12 +2,14 @@
 #![tactic(auto)]
 
 ghost use Rattle.std.specs.Prelude.{◌≡◌, ◌++◌, ◌≤◌, length};
+ghost use Rattle.codes.specs.Code.{code_of};
 ghost use Rattle.machine.specs.Message.{id_bytes, received, size_of, clean};
 ghost use Rattle.iso.specs.Limits.{iso_data, iso_record_size, most_payload};
 ghost use Rattle.iso.specs.Iso.{framed, iso_message_code};
 ghost use Rattle.iso_layout.specs.Record.{extra_is, rec536};
 ghost use Rattle.iso_records.specs.Told.{told};
 
+use codes::Refusal;
 use iso_places::{DATA, RECORD};
 use places::{DATA_IN, NUMBER};
 
@@ -59,10 +61,10 @@ pub fn put_framed(cell: &mut [u8], wide: bool, id: u32, bytes: &[u8])
     put(cell, 0, can::width_flag(wide), 0, id, bytes);
 }
 
-// The code of a message to send on a connection of these flags; 0x00 where it is good.
-pub fn message_code(m: &[u8], flags: u32) -> u32
+// The checks of a message to send on a connection of these flags.
+pub fn message_code(m: &[u8], flags: u32) -> Result<(), Refusal>
     requires { iso_record_size ≤ length m.now }
-    ensures { result ≡ iso_message_code flags m.now }
+    ensures { code_of result ≡ iso_message_code flags m.now }
 {
     message::code_within(m, flags, PROTOCOL, LEAST, MOST)
 }

@@ -119,12 +119,10 @@ pub fn store(s: &[u8], capacity: usize, flags: u32, sending: bool) -> bool
         return false;
     }
     let mut good = true;
-    let mut i = 0;
-    while i < n {
+    for i in 0..n {
         let a = 1 + i * iso_places::RECORD;
         let e = a + iso_places::RECORD;
         good = good & cell(&s[a..e], flags, sending);
-        i += 1;
     }
     let z = 1 + n * iso_places::RECORD;
     good & all_zero(&s[z..])

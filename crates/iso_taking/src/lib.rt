@@ -2,19 +2,21 @@
 #![tactic(auto)]
 
 ghost use Rattle.std.specs.Prelude.{◌≡◌, List, ℕ};
+ghost use Rattle.codes.specs.Code.{code_of};
 ghost use Rattle.machine.specs.Channel.{take_next};
 ghost use Rattle.layout.specs.Promise.{gives};
 ghost use Rattle.iso_layout.specs.Promise.{IsoOpened, iso_outcome};
 
+use codes::Refusal;
 use iso_places::{FLIGHT, RECORD};
 
 // The frame to send next, to a buffer; it stays in flight.
-pub fn take(r: &mut [u8], buffer: &mut [u8]) -> u32
+pub fn take(r: &mut [u8], buffer: &mut [u8]) -> Result<(), Refusal>
     requires { IsoOpened r.old }
-    ensures { (rates : List ℕ) (t : ℕ) → gives result 0 buffer.new r.new ≡ iso_outcome rates t r.old (take_next buffer.old) }
+    ensures { (rates : List ℕ) (t : ℕ) → gives (code_of result) 0 buffer.new r.new ≡ iso_outcome rates t r.old (take_next buffer.old) }
 {
     if buffer.len() < RECORD {
-        return codes::ERR_NULL_PARAMETER;
+        return Err(Refusal::NullParameter);
     }
     if r[FLIGHT] != 0 {
         return iso_retaking::again(r, buffer);
@@ -22,5 +24,5 @@ pub fn take(r: &mut [u8], buffer: &mut [u8]) -> u32
     if iso_choosing::choose(r) {
         return iso_retaking::again(r, buffer);
     }
-    codes::ERR_BUFFER_EMPTY
+    Err(Refusal::BufferEmpty)
 }

@@ -4,12 +4,12 @@ use Prim.Native.Nat.{ℕ, ◌+◌, ◌-◌, ◌≤◌}
 use native.Mathlib.Omega.{arith}
 use mathlib.Core.Bool.{Bool, true, false, ◌&&◌, ◌||◌, not}
 use mathlib.Core.List.{List}
-use lib.ListN.{length, get_or, take, drop, length-drop}
+use lib.ListN.{length, get_or, drop, length-drop}
 use lib.Seq.{get_or-drop}
 use lib.Dec.{T, eqb, leb}
 use Rattle.codec.specs.Plain.{within}
 use Rattle.codec.specs.Word.{word_at}
-use Rattle.codec.specs.Code.{both, byte, via, such}
+use Rattle.codec.specs.Code.{via, such}
 use Rattle.codec.proofs.Tests.{true_T}
 use Rattle.codec.proofs.Word.{word_drop}
 use Rattle.machine.specs.Limits.{size_in, data_in}

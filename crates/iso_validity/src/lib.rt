@@ -9,11 +9,34 @@ ghost use Rattle.iso_layout.specs.Sizes.{iso_flight_size, heard_size, iso_region
 ghost use Rattle.iso_layout.specs.Region.{flight_code, heard_part, ready_part, iso_region};
 
 use can::listens;
+use codes::Refusal;
 use integers::{wide, word_at};
 use iso_stored::{frame, store};
 use iso_talks::{linked, talks};
 use octets::all_zero;
 use validity::configuration;
+
+// What a call on an open ISO 15765 channel can give.
+const KEPT: [u32; 18] = [
+    codes::STATUS_NOERROR,
+    Refusal::NotSupported as u32,
+    Refusal::NullParameter as u32,
+    Refusal::InvalidIoctlValue as u32,
+    Refusal::Failed as u32,
+    Refusal::Timeout as u32,
+    Refusal::InvalidMsg as u32,
+    Refusal::ExceededLimit as u32,
+    Refusal::InvalidMsgId as u32,
+    Refusal::InvalidIoctlId as u32,
+    Refusal::BufferEmpty as u32,
+    Refusal::BufferFull as u32,
+    Refusal::BufferOverflow as u32,
+    Refusal::ChannelInUse as u32,
+    Refusal::MsgProtocolId as u32,
+    Refusal::InvalidFilterId as u32,
+    Refusal::NoFlowControl as u32,
+    Refusal::NotUnique as u32,
+];
 
 // In the flight, behind its taken mark: what it belongs to, and the frame, of which the size and the byte that tells how many follow it.
 const OWNER: usize = 1;
@@ -75,28 +98,11 @@ fn heard(s: &[u8], flags: u32) -> bool
     ) & (s[iso_places::HEARD_SIZE] <= 1)
 }
 
-// Is this 0x00 or a code that a call on an open channel can give? The list is looked through from its end.
+// Is this 0x00 or a code that a call on an open channel can give?
 fn is_kept(code: u32) -> bool
     ensures { result ≡ member code iso_codes }
 {
-    let kept = code == codes::ERR_NOT_UNIQUE;
-    let kept = (code == codes::ERR_NO_FLOW_CONTROL) | kept;
-    let kept = (code == codes::ERR_INVALID_FILTER_ID) | kept;
-    let kept = (code == codes::ERR_MSG_PROTOCOL_ID) | kept;
-    let kept = (code == codes::ERR_CHANNEL_IN_USE) | kept;
-    let kept = (code == codes::ERR_BUFFER_OVERFLOW) | kept;
-    let kept = (code == codes::ERR_BUFFER_FULL) | kept;
-    let kept = (code == codes::ERR_BUFFER_EMPTY) | kept;
-    let kept = (code == codes::ERR_INVALID_IOCTL_ID) | kept;
-    let kept = (code == codes::ERR_INVALID_MSG_ID) | kept;
-    let kept = (code == codes::ERR_EXCEEDED_LIMIT) | kept;
-    let kept = (code == codes::ERR_INVALID_MSG) | kept;
-    let kept = (code == codes::ERR_TIMEOUT) | kept;
-    let kept = (code == codes::ERR_FAILED) | kept;
-    let kept = (code == codes::ERR_INVALID_IOCTL_VALUE) | kept;
-    let kept = (code == codes::ERR_NULL_PARAMETER) | kept;
-    let kept = (code == codes::ERR_NOT_SUPPORTED) | kept;
-    (code == codes::STATUS_NOERROR) | kept
+    KEPT.contains(&code)
 }
 
 // The region of an open channel, behind its open mark: each part, then what they say of each other; it is no listener.

@@ -34,10 +34,10 @@ use Rattle.iso_layout.proofs.Good.{fli, GoodIso}
 use Rattle.iso_layout.proofs.Region.{ready_of, good, moves, stays, lies, flags_at_law, talk_part, messages_part}
 use Rattle.iso_layout.proofs.Calls.{writing_ok}
 use Rattle.message.proofs.Laws.{id_of_data}
-use Rattle.writing.specs.Store.{Queued, Stopped}
-use Rattle.writing.proofs.Loop.{Kind, Turn, one_queued, refused_as, no_turn}
+use Rattle.writing.specs.Store.{Queued, Stopped, StorePart, Laws}
+use Rattle.writing.proofs.Loop.{one_queued, refused_as}
 use Rattle.iso_writing.specs.declared.Flow.{Flow}
-use Rattle.iso_writing.specs.Written.{messages, MessagesPart, talk_by, talks_by, unmatched}
+use Rattle.iso_writing.specs.Written.{iso, messages, MessagesPart, talk_by, talks_by, unmatched}
 use Rattle.iso_writing.proofs.Flows.{same_place, under}
 
 -- ---- one message
@@ -138,24 +138,20 @@ module _ (flags : ℕ) (ts : Slots Talk) where
   one_left n b held count = refl
 
 -- a write on an ISO 15765 channel
-abbrev pub iso : ℕ → Slots Talk → Kind
-iso flags ts =
+pub iso_laws : (flags : ℕ) (ts : Slots Talk) → Laws (iso flags ts)
+iso_laws flags ts =
     record {
-      store = messages flags;
       lawful = up_to_lawful (message_lawful flags) most_messages;
-      size = iso_record_size;
-      rule = iso_write_code flags ts;
-      writes = iso_writing flags ts;
       none_left = none_left flags ts;
       one_left = one_left flags ts;
       more_ok = more_ok flags ts;
     }
 
-pub turn_part : {flags : ℕ} (ts : Slots Talk) {n : ℕ} {b before store : List ℕ} {i : ℕ} → Turn (iso flags ts) n b before store i → MessagesPart flags store
-turn_part {flags} ts u = record { long = u.long ∙ messages_size_law flags; valid = u.valid }
+pub part_is : (ts : Slots Talk) {flags : ℕ} {m : List ℕ} → MessagesPart flags m → StorePart (iso flags ts) m
+part_is ts {flags} w = record { long = w.long ∙ sym (messages_size_law flags); valid = w.valid }
 
-pub first_turn : {flags : ℕ} (ts : Slots Talk) {store : List ℕ} (n : ℕ) (b : List ℕ) → MessagesPart flags store → Turn (iso flags ts) n b store store 0
-first_turn {flags} ts n b w = no_turn (iso flags ts) n b (w.long ∙ sym (messages_size_law flags)) w.valid
+pub is_part : (ts : Slots Talk) {flags : ℕ} {m : List ℕ} → StorePart (iso flags ts) m → MessagesPart flags m
+is_part ts {flags} w = record { long = w.long ∙ messages_size_law flags; valid = w.valid }
 
 -- ---- conversations that carry the same
 

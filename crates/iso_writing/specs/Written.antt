@@ -4,10 +4,11 @@ use Rattle.std.proofs.Math.Option.{Option, none, some}
 use Rattle.codec.specs.Code.{Code, up_to}
 use Rattle.machine.specs.Filter.{Slots, any_slot}
 use Rattle.machine.specs.Message.{id_of, Rec, size_of, wide_of, data_of}
-use Rattle.iso.specs.Limits.{most_messages, longest_single}
-use Rattle.iso.specs.Iso.{Talk, idle, carries}
+use Rattle.iso.specs.Limits.{most_messages, iso_record_size, longest_single}
+use Rattle.iso.specs.Iso.{Talk, idle, carries, iso_write_code, iso_writing}
 use Rattle.iso_layout.specs.Sizes.{messages_size}
 use Rattle.iso_layout.specs.Region.{message_cell}
+use Rattle.writing.specs.Store.{Kind}
 use Rattle.iso_writing.specs.declared.Flow.{Flow}
 
 -- at most 4 messages, on a connection of these flags
@@ -18,6 +19,10 @@ messages flags = up_to most_messages (message_cell flags)
 pub record MessagesPart (flags : ℕ) (m : List ℕ) : Type 0 where
   pub long : length m ≡ messages_size
   pub valid : T ((messages flags).valid m)
+
+-- the way of writing on a connection of these flags, with these conversations
+abbrev pub iso : ℕ → Slots Talk → Kind
+iso flags ts = record { store = messages flags; size = iso_record_size; rule = iso_write_code flags ts; writes = iso_writing flags ts }
 
 -- conversations of which nothing is known but what a message is matched against
 unfoldable pub talk_by : Flow → Option Talk

@@ -1,21 +1,22 @@
 // Writing on an ISO 15765 channel: messages queued behind those that it holds to be sent.
 #![tactic(auto)]
 
-ghost use Rattle.std.specs.Prelude.{◌≡◌, List, [], ℕ, ◌*◌, ◌≤◌, eqb, length, get_or};
+ghost use Rattle.std.specs.Prelude.{◌≡◌, List, [], ℕ, ◌≤◌, eqb, length, get_or};
+ghost use Rattle.codes.specs.Code.{code_of};
 ghost use Rattle.codec.specs.Word.{word_at};
 ghost use Rattle.machine.specs.Filter.{any_slot};
 ghost use Rattle.machine.specs.Message.{size_of};
 ghost use Rattle.machine.specs.Channel.{write as write_of};
 ghost use Rattle.layout.specs.Promise.{gives};
 ghost use Rattle.iso.specs.Limits.{iso_record_size, least_message};
-ghost use Rattle.iso.specs.Iso.{carries, iso_write_code, iso_writing};
+ghost use Rattle.iso.specs.Iso.{carries};
 ghost use Rattle.iso_layout.specs.Sizes.{flow_in, talk_size};
 ghost use Rattle.iso_layout.specs.Promise.{IsoOpened, iso_outcome};
-ghost use Rattle.writing.specs.Store.{Queued, Stopped};
-ghost use Rattle.iso_writing.specs.Written.{messages, MessagesPart, talks_by, unmatched as unmatched_in};
+ghost use Rattle.iso_writing.specs.Written.{iso, talks_by, unmatched as unmatched_in};
 
-use codes::Answer;
+use codes::{Moved, Refusal};
 use iso_places::{FLIGHT, FLOW_IN, MESSAGES, RECORD, TALK_SIZE, TALKS_AT};
+use writing::Queueing;
 
 // The most written messages; the longest that is a single frame: an identifier and 7 bytes; where the second conversation begins.
 const MOST: u8 = iso_places::MOST_MESSAGES as u8;
@@ -66,62 +67,50 @@ fn unmatched(m: &[u8], one: Flow, two: Flow) -> bool
     (LONGEST_SINGLE < integers::word_at(m, places::SIZE_IN)) & !known
 }
 
-// One message behind those held, clean, where its checks find it good, a conversation sends it, and fewer than 4 are held; its code.
-fn queue(store: &mut [u8], flags: u32, one: Flow, two: Flow, m: &[u8]) -> u32
-    requires { MessagesPart flags store.old × (iso_record_size ≤ length m.now) }
-    ensures { Queued (messages flags) (iso_write_code flags (talks_by one two)) store.old m.now result store.new }
-{
-    let code = iso_records::message_code(m, flags);
-    if code != codes::STATUS_NOERROR {
-        return code;
-    }
-    if unmatched(m, one, two) {
-        return codes::ERR_NO_FLOW_CONTROL;
-    }
-    let held = store[0];
-    if held >= MOST {
-        return codes::ERR_BUFFER_FULL;
-    }
-    let at = 1 + RECORD * held as usize;
-    let end = at + RECORD;
-    iso_records::put_clean(&mut store[at..end], m);
-    store[0] = held + 1;
-    codes::STATUS_NOERROR
+// Writing on a connection of these flags, with these conversations.
+#[derive(Clone, Copy)]
+struct Iso {
+    flags: u32,
+    one: Flow,
+    two: Flow,
 }
 
-// The first n records of a buffer, in order, until one is refused.
-fn queue_all(store: &mut [u8], flags: u32, one: Flow, two: Flow, n: u32, buffer: &[u8]) -> Answer
-    requires { MessagesPart flags store.old × (iso_record_size * n ≤ length buffer.now) }
-    ensures { Stopped (messages flags) (iso_writing flags (talks_by one two) n buffer.now ((messages flags).get store.old) 0) result.code result.value store.new }
-{
-    let mut i = 0;
-    while i < n {
-        let at = RECORD * i as usize;
-        let code = queue(store, flags, one, two, &buffer[at..]);
-        if code != codes::STATUS_NOERROR {
-            return Answer { code, value: i };
+// Its queueing is written out beside that of raw CAN: the checks between, the size, the most held and the cell differ, and one body would need a law for each.
+impl Queueing for Iso {
+    ghost kind = { λ x. iso x.flags (talks_by x.one x.two) };
+
+    fn queue(&self, store: &mut [u8], m: &[u8]) -> Result<(), Refusal> {
+        iso_records::message_code(m, self.flags)?;
+        if unmatched(m, self.one, self.two) {
+            return Err(Refusal::NoFlowControl);
         }
-        i += 1;
-    }
-    Answer {
-        code: codes::STATUS_NOERROR,
-        value: i,
+        let held = store[0];
+        if held >= MOST {
+            return Err(Refusal::BufferFull);
+        }
+        let at = 1 + RECORD * held as usize;
+        let end = at + RECORD;
+        iso_records::put_clean(&mut store[at..end], m);
+        store[0] = held + 1;
+        Ok(())
     }
 }
 
 // Write: the first n records of the buffer, in order, until one is refused or 4 are held.
-pub fn write(r: &mut [u8], n: u32, buffer: &[u8]) -> Answer
+pub fn write(r: &mut [u8], n: u32, buffer: &[u8]) -> Moved
     requires { IsoOpened r.old }
-    ensures { (rates : List ℕ) (t : ℕ) → gives result.code result.value [] r.new ≡ iso_outcome rates t r.old (write_of n buffer.now) }
+    ensures { (rates : List ℕ) (t : ℕ) → gives (code_of result.end) result.count [] r.new ≡ iso_outcome rates t r.old (write_of n buffer.now) }
 {
     if buffer.len() < RECORD * n as usize {
-        return Answer {
-            code: codes::ERR_NULL_PARAMETER,
-            value: 0,
+        return Moved {
+            count: 0,
+            end: Err(Refusal::NullParameter),
         };
     }
-    let flags = integers::word_at(r, places::FLAGS);
-    let one = flow_in(&r[TALKS_AT..SECOND]);
-    let two = flow_in(&r[SECOND..MESSAGES]);
-    queue_all(&mut r[MESSAGES..FLIGHT], flags, one, two, n, buffer)
+    let iso = Iso {
+        flags: integers::word_at(r, places::FLAGS),
+        one: flow_in(&r[TALKS_AT..SECOND]),
+        two: flow_in(&r[SECOND..MESSAGES]),
+    };
+    writing::queue_all::<RECORD, Iso>(&iso, &mut r[MESSAGES..FLIGHT], n, buffer)
 }

@@ -202,7 +202,7 @@ module _ (m : List ℕ) (long : length m ≡ talk_size) (v : T (talk.valid m)) w
     pub ignored : (get_or m out_in 0 ≡ 2 → ⊥) → Answers true m
     ignored n = made talk _ m held m (not_awaited ready sn held held.out (λ e. n (which_is ∙ e))) (sym kept)
 
-    module _ (asks : get_or m out_in 0 ≡ 2) (a x y : ℕ) (xs : x ≡ sn) (ys : y ≡ get_or m sn_in 0) (e : a ≡ (x + 16 - y) % 16 % 256) where
+    module _ (asks : get_or m out_in 0 ≡ 2) (a x y : ℕ) (xs : x ≡ sn) (ys : y ≡ get_or m sn_in 0) (e : a ≡ (x + 16 - y) % 16) where
       awaited : (out_parts held.out).0 ≡ 2
       awaited = sym which_is ∙ asks
 
@@ -210,8 +210,7 @@ module _ (m : List ℕ) (long : length m ≡ talk_size) (v : T (talk.valid m)) w
       unfolding points_at
       points =
           let q : x + 16 - y ≡ sn + 16 - held.sn = omega (arith, sn_is) in
-          let small : (x + 16 - y) % 16 % 256 ≡ (x + 16 - y) % 16 = omega arith in
-          e ∙ small ∙ ap (λ (n : ℕ). n % 16) q
+          e ∙ ap (λ (n : ℕ). n % 16) q
 
       pub accepting : a ≡ get_or m (out_in + block_in) 0 → (z : List ℕ) → z ≡ talk.put (accepted ready sn held) → Answers true z
       accepting h z q = made talk _ m _ z (all_accepted ready sn held held.out awaited (sym points ∙ h ∙ taken_is)) q
@@ -252,8 +251,7 @@ module _ (m : List ℕ) (long : length m ≡ talk_size) (v : T (talk.valid m)) w
         ∙ ap (λ (i : ℕ). talk.put (record { hold = held.hold; sn = i; out = sends (new_block []) })) k
         ∙ sym (ap talk.put b.1)
 
-  pub next_sn : (x y n : ℕ) → x ≡ get_or m sn_in 0 → y ≡ get_or m (out_in + block_in) 0 → n ≡ (x + y) % 16 % 256 → n ≡ (held.sn + (out_parts held.out).1.1.taken) % 16
+  pub next_sn : (x y n : ℕ) → x ≡ get_or m sn_in 0 → y ≡ get_or m (out_in + block_in) 0 → n ≡ (x + y) % 16 → n ≡ (held.sn + (out_parts held.out).1.1.taken) % 16
   next_sn x y n xs ys e =
       let q : x + y ≡ held.sn + (out_parts held.out).1.1.taken = omega (arith, sn_is, taken_is) in
-      let small : (x + y) % 16 % 256 ≡ (x + y) % 16 = omega arith in
-      e ∙ small ∙ ap (λ (i : ℕ). i % 16) q
+      e ∙ ap (λ (i : ℕ). i % 16) q

@@ -8,7 +8,7 @@ ghost use Rattle.link_layout.specs.Connection.{out, talk};
 ghost use Rattle.link_layout.specs.Turned.{is_there, put_or};
 ghost use Rattle.link_acknowledging.specs.Acknowledging.{restarted, next_of, cut_of, waiting, accepted, repeated, acknowledged_in};
 
-use integers::{low, put_word, wide};
+use integers::{put_word, wide};
 use link_places::{AGAIN_IN, BLOCK_IN, OUT_IN, OUT_SIZE, REPEATS_IN, REST_IN, SN_IN, TALK_SIZE};
 use places::NUMBER;
 
@@ -112,7 +112,7 @@ pub fn acknowledge(s: &mut [u8], ready: bool, sn: u8) -> bool
         return true;
     }
     let taken = s[BLOCK];
-    let at = low((wide(sn) + 16 - wide(s[SN_IN])) % 16);
+    let at = ((wide(sn) + 16 - wide(s[SN_IN])) % 16) as u8;
     if at == taken {
         accept(s, ready, sn);
         return true;
@@ -133,7 +133,7 @@ pub fn break_off(s: &mut [u8])
     requires { (length s.old ≡ talk_size) × T (talk.valid s.old) }
     ensures { s.new ≡ talk.put (broken (talk.get s.old) (talk.get s.old).out) }
 {
-    let sn = low((wide(s[SN_IN]) + wide(s[BLOCK])) % 16);
+    let sn = ((wide(s[SN_IN]) + wide(s[BLOCK])) % 16) as u8;
     if cut(&mut s[OUT_IN..TALK_SIZE]) {
         s[SN_IN] = sn;
     }

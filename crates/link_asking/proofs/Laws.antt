@@ -1,26 +1,26 @@
 -- What an open asks for in numbers and in bytes. Assumes nothing.
-use mathlib.Core.Path.{◌≡◌, refl, sym, ap, ap₂, ◌∙◌, subst}
+use mathlib.Core.Path.{◌≡◌, refl, sym, ap, ap₂, ◌∙◌}
 use Prim.Native.Nat.{ℕ, ◌≤◌, ◌<◌}
 use native.Mathlib.Omega.{arith}
 use mathlib.Core.Bool.{Bool, true, false, ◌&&◌}
-use mathlib.Core.List.{List, [], ◌∷◌, ◌++◌, append_assoc}
-use lib.ListN.{length, get_or, set, take, drop, length-drop, drop_of_length-le}
+use mathlib.Core.List.{List, [], ◌∷◌, ◌++◌}
+use lib.ListN.{length, get_or, set, drop, length-drop, drop_of_length-le}
 use lib.Seq.{drop-drop}
-use lib.Dec.{T, eqb, leb, ltb, ltb→lt}
+use lib.Dec.{T, ltb→lt}
 use borrow.Rule.Slice.PartMut.{put_mid, post_of}
 use Rattle.codec.specs.Plain.{zeros}
 use Rattle.codec.specs.Word.{word, word_at}
 use Rattle.codec.specs.Code.{Code, byte, word32, both, via, such}
-use Rattle.codec.proofs.Tests.{left, right, T_false, and_true, and_assoc}
+use Rattle.codec.proofs.Tests.{left, right, T_false, and_true}
 use Rattle.codec.proofs.Lists.{zeros_join, drop_zeros}
 use Rattle.telegram.specs.Bits.{within, is_byte}
 use Rattle.telegram.specs.Telegram.{unused_time, own_connection, fits, is_application, is_destination, is_id, is_opening_id, fields_fit, opening_fits}
 use Rattle.link.specs.Connection.{Asked, asked_fits, ours, set_up_of, waits, opening}
 use Rattle.link_layout.specs.Sizes.{asked_size, link_size}
-use Rattle.link_layout.specs.Connection.{asked_parts, asked_back, asked, trials, trial, connection_part}
+use Rattle.link_layout.specs.Connection.{asked_back, asked, trials, trial, connection_part}
 use Rattle.link_layout.specs.Turned.{LinkPart}
 use Rattle.link_layout.proofs.Bytes.{absent_bytes, opening_bytes}
-use Rattle.link_layout.proofs.Talking.{AskedFacts, asked_facts, asked_make}
+use Rattle.link_layout.proofs.Talking.{asked_facts, asked_make}
 use Rattle.link_layout.proofs.Places.{kept, state_is, is_absent}
 use Rattle.stored_records.proofs.Parts.{Bytes, less, at_rest, byte_valid}
 use Rattle.iso_stored.proofs.Rows.{number_got, number_valid, byte_got, byte_then}

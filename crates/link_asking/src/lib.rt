@@ -6,7 +6,7 @@ ghost use Rattle.link.specs.Connection.{asked_fits, waits, opening};
 ghost use Rattle.link_layout.specs.Sizes.{asked_size};
 ghost use Rattle.link_layout.specs.Connection.{asked as asked_code, connection_part};
 ghost use Rattle.link_layout.specs.Turned.{LinkPart};
-ghost use Rattle.link_asking.specs.Asking.{asked_of};
+ghost use Rattle.link_asking.specs.Asking.{asks};
 
 use integers::{put_word, wide, word_at};
 use link_places::{
@@ -21,31 +21,35 @@ const NARROW: u32 = 0x7FF;
 // The state of a connection that opens.
 const OPENING: u8 = 1;
 
+// What an open asks for: both identifiers, the destination, the application, the block size and two times.
+#[derive(Clone, Copy)]
+pub struct Asking {
+    pub own: u32,
+    pub destination: u32,
+    pub rx: u32,
+    pub application: u32,
+    pub size: u32,
+    pub t1: u32,
+    pub t3: u32,
+}
+
 // Is each number one that its field can have?
-pub fn asked_fits(
-    own: u32,
-    destination: u32,
-    rx: u32,
-    application: u32,
-    size: u32,
-    t1: u32,
-    t3: u32,
-) -> bool
-    ensures { result ≡ asked_fits (asked_of own destination rx application size t1 t3) }
+pub fn asked_fits(a: Asking) -> bool
+    ensures { result ≡ asked_fits (asks a) }
 {
-    if destination > BYTE {
+    if a.destination > BYTE {
         return false;
     }
-    if application > BYTE {
+    if a.application > BYTE {
         return false;
     }
-    if size > BYTE {
+    if a.size > BYTE {
         return false;
     }
-    (telegram_fields::opening_id(own)
-        & (telegram_fields::destination(destination as u8)
-            & ((rx <= NARROW) & telegram_fields::application(application as u8))))
-        & (telegram_fields::block_size(size as u8) & ((t1 <= BYTE) & (t3 <= BYTE)))
+    (telegram_fields::opening_id(a.own)
+        & (telegram_fields::destination(a.destination as u8)
+            & ((a.rx <= NARROW) & telegram_fields::application(a.application as u8))))
+        & (telegram_fields::block_size(a.size as u8) & ((a.t1 <= BYTE) & (a.t3 <= BYTE)))
 }
 
 // Are these the bytes of what an open asked for?
@@ -53,15 +57,15 @@ pub fn asked(s: &[u8]) -> bool
     requires { length s.now ≡ asked_size }
     ensures { result ≡ asked_code.valid s.now }
 {
-    asked_fits(
-        word_at(s, 0),
-        wide(s[DESTINATION_IN]),
-        word_at(s, RX_ID_IN),
-        wide(s[APPLICATION_IN]),
-        wide(s[BLOCK_SIZE_IN]),
-        wide(s[T1_IN]),
-        wide(s[T3_IN]),
-    )
+    asked_fits(Asking {
+        own: word_at(s, 0),
+        destination: wide(s[DESTINATION_IN]),
+        rx: word_at(s, RX_ID_IN),
+        application: wide(s[APPLICATION_IN]),
+        size: wide(s[BLOCK_SIZE_IN]),
+        t1: wide(s[T1_IN]),
+        t3: wide(s[T3_IN]),
+    })
 }
 
 // Five bytes side by side.
@@ -77,54 +81,27 @@ fn put_five(s: &mut [u8], destination: u32, application: u32, size: u32, t1: u32
 }
 
 // What an open asks for, into its bytes.
-fn put_asked(
-    s: &mut [u8],
-    own: u32,
-    destination: u32,
-    rx: u32,
-    application: u32,
-    size: u32,
-    t1: u32,
-    t3: u32,
-)
-    requires { (length s.old ≡ asked_size) × (destination < 256) × (application < 256) × (size < 256) × (t1 < 256) × (t3 < 256) }
-    ensures { s.new ≡ asked_code.put (asked_of own destination rx application size t1 t3) }
+fn put_asked(s: &mut [u8], a: Asking)
+    requires { (length s.old ≡ asked_size) × (a.destination < 256) × (a.application < 256) × (a.size < 256) × (a.t1 < 256) × (a.t3 < 256) }
+    ensures { s.new ≡ asked_code.put (asks a) }
 {
-    put_word(&mut s[0..RX_ID_IN], own);
-    put_word(&mut s[RX_ID_IN..DESTINATION_IN], rx);
+    put_word(&mut s[0..RX_ID_IN], a.own);
+    put_word(&mut s[RX_ID_IN..DESTINATION_IN], a.rx);
     put_five(
         &mut s[DESTINATION_IN..ASKED_SIZE],
-        destination,
-        application,
-        size,
-        t1,
-        t3,
+        a.destination,
+        a.application,
+        a.size,
+        a.t1,
+        a.t3,
     );
 }
 
 // A connection opens, where none was: its set-up waits to be taken.
-pub fn open(
-    part: &mut [u8],
-    own: u32,
-    destination: u32,
-    rx: u32,
-    application: u32,
-    size: u32,
-    t1: u32,
-    t3: u32,
-)
-    requires { LinkPart part.old × (get_or part.old 0 0 ≡ 0) × T (asked_fits (asked_of own destination rx application size t1 t3)) }
-    ensures { part.new ≡ connection_part.put (opening (asked_of own destination rx application size t1 t3) 0 waits) }
+pub fn open(part: &mut [u8], a: Asking)
+    requires { LinkPart part.old × (get_or part.old 0 0 ≡ 0) × T (asked_fits (asks a)) }
+    ensures { part.new ≡ connection_part.put (opening (asks a) 0 waits) }
 {
-    put_asked(
-        &mut part[ASKED_AT..TX_ID_AT],
-        own,
-        destination,
-        rx,
-        application,
-        size,
-        t1,
-        t3,
-    );
+    put_asked(&mut part[ASKED_AT..TX_ID_AT], a);
     part[0] = OPENING;
 }

@@ -15,7 +15,7 @@ use link_places::{
     ASKED_AT, BLOCK_SIZE_IN, CARE_IN, EXIT_AT, LEFT_IN, LINK, PACE_IN, RX_ID_IN, STANDING_AT,
     TALK_IN, TRIALS_AT,
 };
-use telegram_types::{OnChannel, Taken, Telegram};
+use telegram_types::{OnChannel, Telegram};
 
 // The state of a connection that stands.
 const STANDING: u8 = 3;
@@ -24,7 +24,7 @@ const STANDING: u8 = 3;
 const TEST: u32 = 1000000;
 
 // What a telegram means to a connection set-up: nothing; a connection with this block size and T3; none.
-#[derive(Drop)]
+#[derive(Clone, Copy)]
 pub enum Turn {
     Nothing,
     Stands { block_size: u8, t3: u8 },
@@ -65,12 +65,10 @@ fn joining(t: OnChannel) -> Turn
 fn join_in(bytes: &[u8]) -> Turn
     ensures { (a : Asked) (tx n : ℕ) (s : Trial) → after_join result a tx n s ≡ joined a tx n s (read_channel bytes.now) }
 {
-    let answer = channel_reader::channel(bytes);
-    let taken = answer.taken;
-    let Taken::Yes(telegram) = taken else {
+    let Ok(answer) = channel_reader::channel(bytes) else {
         return Turn::Nothing;
     };
-    match telegram {
+    match answer.telegram {
         Telegram::Opening(_, _) => Turn::Nothing,
         Telegram::Channel(t) => joining(t),
     }
@@ -107,8 +105,7 @@ pub fn join(part: &mut [u8], id: u32, bytes: &[u8])
     if id != integers::word_at(part, ASKED_AT + RX_ID_IN) {
         return;
     }
-    let j = join_in(bytes);
-    match j {
+    match join_in(bytes) {
         Turn::Nothing => {}
         Turn::Stands { block_size, t3 } => stand(part, block_size, t3),
         Turn::Over => octets::zero(part),

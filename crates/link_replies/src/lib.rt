@@ -13,7 +13,7 @@ ghost use Rattle.link_replies.specs.Meaning.{Asks, after_reply};
 use link_places::{
     APPLICATION_IN, ASKED_AT, DESTINATION_IN, EXIT_AT, RX_ID_IN, TRIALS_AT, TX_ID_AT,
 };
-use telegram_types::{Opening, Taken, Telegram};
+use telegram_types::{Opening, Telegram};
 
 // The state of a connection that connects.
 const CONNECTING: u8 = 2;
@@ -22,7 +22,7 @@ const CONNECTING: u8 = 2;
 const REPLIES: u32 = 0x200;
 
 // What a reply means to the set-up: nothing; a channel with this TX-ID; none.
-#[derive(Drop)]
+#[derive(Clone, Copy)]
 pub enum Means {
     Nothing,
     Positive(u32),
@@ -66,12 +66,10 @@ fn meaning(o: Opening, own: u8, rx: u32, application: u8) -> Means
 fn reply_in(id: u32, bytes: &[u8], own: u8, rx: u32, application: u8) -> Means
     ensures { (a : Asked) (n : ℕ) (s : Trial) → Asks a own rx application → after_reply result a n s ≡ replied a n s (read_opening id bytes.now) }
 {
-    let answer = opening_reader::opening(id, bytes);
-    let taken = answer.taken;
-    let Taken::Yes(telegram) = taken else {
+    let Ok(answer) = opening_reader::opening(id, bytes) else {
         return Means::Nothing;
     };
-    match telegram {
+    match answer.telegram {
         Telegram::Opening(_, o) => meaning(o, own, rx, application),
         Telegram::Channel(_) => Means::Nothing,
     }
@@ -98,8 +96,7 @@ pub fn reply(part: &mut [u8], id: u32, bytes: &[u8])
     let own = part[ASKED_AT];
     let rx = integers::word_at(part, ASKED_AT + RX_ID_IN);
     let application = part[ASKED_AT + APPLICATION_IN];
-    let r = reply_in(id, bytes, own, rx, application);
-    match r {
+    match reply_in(id, bytes, own, rx, application) {
         Means::Nothing => {}
         Means::Positive(tx) => connect(part, tx),
         Means::Negative => octets::zero(part),

@@ -13,7 +13,10 @@ use Rattle.codec.proofs.Lists.{drop_zeros}
 use Rattle.codec.proofs.Tests.{left, T_true}
 use Rattle.codec.proofs.Word.{word_back}
 use Rattle.telegram.specs.Telegram.{Opening, set_up, opening_fits, opening_bytes, fits, own_connection}
-use Rattle.telegram_types.specs.declared.Written.{Written}
+use Rattle.std.specs.Prelude.{Result, Ok, Err}
+use Rattle.std.specs.Result.{result_unwrap_or}
+use Rattle.codes.specs.declared.Refusal.{Refusal}
+use Rattle.codes.specs.Code.{value_of}
 use Rattle.telegram_types.specs.Face.{Wrote, wrote, over, done, written_if}
 use Rattle.link.specs.Connection.{Asked, asked_fits, set_up_of, ours}
 use Rattle.link_layout.specs.Sizes.{rx_id_in, destination_in, application_in, block_size_in, t1_in, t3_in}
@@ -31,14 +34,19 @@ zeros_left b h =
     let k : frame_room ≡ length b + (frame_room - length b) = omega arith in
     ap (λ (n : ℕ). drop (length b) (zeros n)) k ∙ drop_zeros (length b) (frame_room - length b)
 
-pub written : (id : ℕ) (w : Written) (buf b : List ℕ) (fit : Bool) → fit ≡ true → length b ≤ frame_room → wrote w buf ≡ written_if fit b (zeros frame_room)
-    → record { there = true; id = id; len = w.len; bytes = buf } ≡ given id b
+pub written : (id : ℕ) (w : Result ℕ Refusal) (buf b : List ℕ) (fit : Bool) → fit ≡ true → length b ≤ frame_room → wrote w buf ≡ written_if fit b (zeros frame_room)
+    → record { there = true; id = id; len = value_of w; bytes = buf } ≡ given id b
 unfolding given wrote written_if done over
 written id w buf b fit f h e =
     let q : wrote w buf ≡ done b (zeros frame_room) = e ∙ ap (λ (x : Bool). written_if x b (zeros frame_room)) f in
-    let n : w.len ≡ length b = ap (λ (x : Wrote). x.len) q in
+    let n : value_of w ≡ length b = ap (λ (x : Wrote). x.len) q in
     let s : buf ≡ b ++ zeros (frame_room - length b) = ap (λ (x : Wrote). x.buffer) q ∙ ap (λ (x : List ℕ). b ++ x) (zeros_left b h) in
     λ i. record { there = true; id = id; len = n i; bytes = s i }
+
+-- how many bytes were written
+pub value_or : (w : Result ℕ Refusal) → result_unwrap_or w 0 ≡ value_of w
+value_or (Ok n) = refl
+value_or (Err refusal) = refl
 
 pub set_up_short : (d rx app : ℕ) → length (opening_bytes (set_up d rx app)) ≤ frame_room
 unfolding opening_bytes

@@ -54,7 +54,7 @@ pub fn on_channel(id: u32, t: OnChannel, carried: &[u8]) -> Given
     Given {
         there: true,
         id,
-        len: w.len,
+        len: w.unwrap_or(0),
         bytes,
     }
 }
@@ -74,7 +74,7 @@ fn set_up(id: u32, destination: u8, rx_id: u16, application: u8) -> Given
     Given {
         there: true,
         id,
-        len: w.len,
+        len: w.unwrap_or(0),
         bytes,
     }
 }

@@ -6,6 +6,7 @@ use mathlib.Core.Option.{Option, none, some}
 use mathlib.Core.List.{List}
 use lib.ListN.{length, take, replicate, length-append}
 use Rattle.telegram.specs.Telegram.{Telegram, AnyTelegram, read_channel}
+use Rattle.std.specs.Prelude.{Ok}
 use Rattle.telegram_types.specs.declared.Answer.{Answer}
 use Rattle.telegram_types.specs.Face.{Told, told, answering, carried_by, padded}
 use Rattle.link.specs.Connection.{longest}
@@ -22,7 +23,7 @@ unfolding answering
 answered_few none = omega arith
 answered_few (some t) = padded_long (carried_by t)
 
-pub few : (r : Answer) (x : Option AnyTelegram) → told r ≡ answering x → r.len ≤ length r.payload
+pub few : (r : Answer) (x : Option AnyTelegram) → told (Ok r) ≡ answering x → r.len ≤ length r.payload
 unfolding told
 few r x e =
     let n : r.len ≡ (answering x).len = ap (λ (y : Told). y.len) e in

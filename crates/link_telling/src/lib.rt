@@ -12,7 +12,7 @@ ghost use Rattle.link_layout.specs.Turned.{LinkPart};
 ghost use Rattle.link_telling.specs.Telling.{tells, heeds, care_tested, care_answered};
 
 use link_places::{CARE_AT, CARE_SIZE, HEAR_AT, LEFT_IN, LINK, TALK_AT, TESTS_IN, UNANSWERED_IN};
-use telegram_types::{OnChannel, Taken, Telegram};
+use telegram_types::{OnChannel, Telegram};
 
 // T_CTa in microseconds.
 const TEST: u32 = 1000000;
@@ -90,15 +90,11 @@ pub fn told(part: &mut [u8], bytes: &[u8])
     requires { LinkPart part.old × (get_or part.old 0 0 ≡ 3) }
     ensures { part.new ≡ connection_part.put (tells bytes.now (connection_part.get part.old)) }
 {
-    let answer = channel_reader::channel(bytes);
-    let taken = answer.taken;
-    let Taken::Yes(telegram) = taken else {
+    let Ok(answer) = channel_reader::channel(bytes) else {
         return;
     };
-    let payload = answer.payload;
-    let len = answer.len;
-    match telegram {
+    match answer.telegram {
         Telegram::Opening(_, _) => {}
-        Telegram::Channel(t) => tell(part, t, &payload[0..len]),
+        Telegram::Channel(t) => tell(part, t, &answer.payload[0..answer.len]),
     }
 }

@@ -2,13 +2,15 @@
 #![tactic(auto)]
 
 ghost use Rattle.std.specs.Prelude.{◌≡◌, false, List, [], ℕ, drop};
+ghost use Rattle.codes.specs.Code.{code_of, value_of};
 ghost use Rattle.machine.specs.Message.{takes};
 ghost use Rattle.machine.specs.Channel.{link_open, link_send, link_receive, link_end};
 ghost use Rattle.layout.specs.Memory.{open_part};
 ghost use Rattle.layout.specs.Promise.{gives, Opened, call_outcome};
-ghost use Rattle.link_asking.specs.Asking.{asked_of};
+ghost use Rattle.link_asking.specs.Asking.{asks};
 
-use codes::Answer;
+use codes::Refusal;
+use link_asking::Asking;
 use link_places::MOST_BYTES;
 use places::{LINK, REGION};
 
@@ -26,116 +28,83 @@ fn narrow(r: &[u8]) -> bool
 }
 
 // Open: a connection with these fields, where none is there.
-pub fn open(
-    r: &mut [u8],
-    own: u32,
-    destination: u32,
-    rx: u32,
-    application: u32,
-    size: u32,
-    t1: u32,
-    t3: u32,
-) -> u32
+pub fn open(r: &mut [u8], a: Asking) -> Result<(), Refusal>
     requires { Opened r.old }
-    ensures { (rates : List ℕ) (t : ℕ) → gives result 0 [] r.new ≡ call_outcome rates t r.old (link_open (asked_of own destination rx application size t1 t3)) }
+    ensures { (rates : List ℕ) (t : ℕ) → gives (code_of result) 0 [] r.new ≡ call_outcome rates t r.old (link_open (asks a)) }
 {
     if !narrow(r) {
-        return codes::ERR_INVALID_MSG;
+        return Err(Refusal::InvalidMsg);
     }
-    if !link_asking::asked_fits(own, destination, rx, application, size, t1, t3) {
-        return codes::ERR_INVALID_MSG;
+    if !link_asking::asked_fits(a) {
+        return Err(Refusal::InvalidMsg);
     }
     if r[LINK] != 0 {
-        return codes::ERR_CHANNEL_IN_USE;
+        return Err(Refusal::ChannelInUse);
     }
-    link_asking::open(
-        &mut r[LINK..REGION],
-        own,
-        destination,
-        rx,
-        application,
-        size,
-        t1,
-        t3,
-    );
-    codes::STATUS_NOERROR
+    link_asking::open(&mut r[LINK..REGION], a);
+    Ok(())
 }
 
 // Send: a message of 1 to 512 bytes, on a connection that stands and has none under way.
-pub fn send(r: &mut [u8], message: &[u8]) -> u32
+pub fn send(r: &mut [u8], message: &[u8]) -> Result<(), Refusal>
     requires { Opened r.old }
-    ensures { (rates : List ℕ) (t : ℕ) → gives result 0 [] r.new ≡ call_outcome rates t r.old (link_send message.now) }
+    ensures { (rates : List ℕ) (t : ℕ) → gives (code_of result) 0 [] r.new ≡ call_outcome rates t r.old (link_send message.now) }
 {
     if !narrow(r) {
-        return codes::ERR_INVALID_MSG;
+        return Err(Refusal::InvalidMsg);
     }
     if r[LINK] != STANDING {
-        return codes::ERR_FAILED;
+        return Err(Refusal::Failed);
     }
     if message.len() < 1 {
-        return codes::ERR_INVALID_MSG;
+        return Err(Refusal::InvalidMsg);
     }
     if message.len() > MOST_BYTES {
-        return codes::ERR_INVALID_MSG;
+        return Err(Refusal::InvalidMsg);
     }
     if link_calls::busy(&r[LINK..REGION]) {
-        return codes::ERR_BUFFER_FULL;
+        return Err(Refusal::BufferFull);
     }
     link_calls::begin(&mut r[LINK..REGION], message);
-    codes::STATUS_NOERROR
+    Ok(())
 }
 
 // Receive: the complete message to the front of a buffer of at least 512 bytes, and its length.
-pub fn receive(r: &mut [u8], buffer: &mut [u8]) -> Answer
+pub fn receive(r: &mut [u8], buffer: &mut [u8]) -> Result<u32, Refusal>
     requires { Opened r.old }
-    ensures { (rates : List ℕ) (t : ℕ) → gives result.code result.value buffer.new r.new ≡ call_outcome rates t r.old (link_receive buffer.old) }
+    ensures { (rates : List ℕ) (t : ℕ) → gives (code_of result) (value_of result) buffer.new r.new ≡ call_outcome rates t r.old (link_receive buffer.old) }
 {
     if buffer.len() < MOST_BYTES {
-        return Answer {
-            code: codes::ERR_NULL_PARAMETER,
-            value: 0,
-        };
+        return Err(Refusal::NullParameter);
     }
     if !narrow(r) {
-        return Answer {
-            code: codes::ERR_INVALID_MSG,
-            value: 0,
-        };
+        return Err(Refusal::InvalidMsg);
     }
     if r[LINK] != STANDING {
-        return Answer {
-            code: codes::ERR_FAILED,
-            value: 0,
-        };
+        return Err(Refusal::Failed);
     }
     let n = link_calls::complete(&r[LINK..REGION]);
     if n == 0 {
-        return Answer {
-            code: codes::ERR_BUFFER_EMPTY,
-            value: 0,
-        };
+        return Err(Refusal::BufferEmpty);
     }
     link_calls::fetch(&mut r[LINK..REGION], buffer);
-    Answer {
-        code: codes::STATUS_NOERROR,
-        value: n,
-    }
+    Ok(n)
 }
 
 // End: a connection that opens, connects or stands is ended.
-pub fn end(r: &mut [u8]) -> u32
+pub fn end(r: &mut [u8]) -> Result<(), Refusal>
     requires { Opened r.old }
-    ensures { (rates : List ℕ) (t : ℕ) → gives result 0 [] r.new ≡ call_outcome rates t r.old link_end }
+    ensures { (rates : List ℕ) (t : ℕ) → gives (code_of result) 0 [] r.new ≡ call_outcome rates t r.old link_end }
 {
     if !narrow(r) {
-        return codes::ERR_INVALID_MSG;
+        return Err(Refusal::InvalidMsg);
     }
     if r[LINK] < OPENING {
-        return codes::ERR_FAILED;
+        return Err(Refusal::Failed);
     }
     if r[LINK] > STANDING {
-        return codes::ERR_FAILED;
+        return Err(Refusal::Failed);
     }
     link_ending::end(&mut r[LINK..REGION]);
-    codes::STATUS_NOERROR
+    Ok(())
 }

@@ -9,8 +9,11 @@ use native.Mathlib.Omega.{arith}
 use lib.ListN.{length, get_or, set, take, drop, length-set, length-drop, drop_of_length-le}
 use lib.Seq.{sets, sets-eq, drop-cons}
 use Rattle.number.proofs.Groups.{below}
-use Rattle.text.specs.Text.{value_of}
-use Rattle.text_reader.specs.Reading.{digit_of}
+use Rattle.std.specs.Prelude as std
+use Rattle.std.specs.Option.{unwrap_or}
+use Rattle.text.specs.Text.{digit_in, value_of}
+use Rattle.text_reader.specs.Reading.{digit_of, valued}
+use Rattle.text_reader.proofs.Digits.{digit_there}
 use Rattle.candump.specs.Line.{data_in}
 use Rattle.answers.specs.Put.{Put}
 use Rattle.log_reader.specs.Reading.{data_of}
@@ -35,6 +38,10 @@ good_behind x y l = by (value_of 16 0 (x ∷ y ∷ [])) (data_in l) refl
     by (some v) none q e = let z : ◌≡◌ {A = ℕ} 0 1 = cc in absurd (omega arith)
     by (some v) (some m) q e = let is : m ≡ data_of l = cc in q ∙ ap some is
 
+-- what stands for a digit that is there
+pub digit_given : (x : ℕ) (r : std.Option ℕ) → r ≡ valued (digit_in x) → digit_of x < 16 → unwrap_or r 0 ≡ digit_of x
+digit_given x r e h = ap (λ (o : std.Option ℕ). unwrap_or o 0) (e ∙ sym (digit_there x (omega arith)))
+
 -- ---- the bytes up to a place were written: with those of the rest from there on, the buffer is as it will be
 pub record Poured (before : List ℕ) (at : ℕ) (text out : List ℕ) (place i : ℕ) : Type 0 where
   pub inside : i ≤ length text
@@ -48,7 +55,7 @@ none_poured b at text g = record { inside = omega arith; good = g; same_length =
 
 module _ {before : List ℕ} {at : ℕ} {text out : List ℕ} {place i : ℕ} (p : Poured before at text out place i) where
   -- there are two digits
-  even : length text ≡ i + 2 * length (data_of (drop i text))
+  pub even : length text ≡ i + 2 * length (data_of (drop i text))
   even = omega (arith, data_size (drop i text) (data_of (drop i text)) p.good, length-drop i text, p.inside)
 
   module _ (h : i < length text) where

@@ -36,10 +36,7 @@ pub fn advances_size(apart: u64) -> u64
 fn mark(wide: bool) -> u32
     ensures { result ≡ mark_of wide }
 {
-    if wide {
-        return 1;
-    }
-    0
+    u32::from(wide)
 }
 
 // Two numbers from a place on; gives the place after them.
@@ -59,11 +56,8 @@ pub fn put_advances(out: &mut [u8], at: usize, apart: u64) -> usize
     let full = apart / SECOND;
     let rest = (apart % SECOND) as u32;
     let mut place = at;
-    let mut k = 0;
-    while k < full {
-        let next = put_pair(out, place, ADVANCE, SECOND as u32);
-        place = next;
-        k += 1;
+    for _k in 0..full {
+        place = put_pair(out, place, ADVANCE, SECOND as u32);
     }
     if rest < 1 {
         return place;
@@ -77,13 +71,11 @@ fn put_data(out: &mut [u8], at: usize, text: &[u8]) -> usize
     ensures { Put out.old at (data_of text.now) result out.new }
 {
     let mut place = at;
-    let mut i = 0;
-    while i < text.len() {
-        let high = text_reader::digit(text[i]);
-        let low = text_reader::digit(text[i + 1]);
+    for k in 0..text.len() / 2 {
+        let high = text_reader::digit(text[2 * k]).unwrap_or(0);
+        let low = text_reader::digit(text[2 * k + 1]).unwrap_or(0);
         out[place] = high * 16 + low;
         place += 1;
-        i += 2;
     }
     place
 }

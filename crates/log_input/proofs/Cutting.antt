@@ -1,4 +1,5 @@
 -- The lines that are whole, one byte after the other. Assumes nothing.
+use Rattle.std.specs.Prelude.{Some, None}
 use Prim.Native.Nat.{ℕ, ◌+◌, ◌≤◌, ◌<◌}
 use mathlib.Core.Path.{◌≡◌, refl, sym, ap, ◌∙◌}
 use mathlib.Core.List.{List}
@@ -36,7 +37,7 @@ module _ {log : List ℕ} {end line i : ℕ} (l : Looked log end line i) where
         = rw (drop-cons log i 0 h, ne_eqb (get_or log i 0) newline e) (ap (λ (k : ℕ). whole_from (i + 1) end line (drop k log)) (sym (add-one i))) in
         record { inside = omega arith; few = omega (arith, l.few); is = sym step ∙ l.is }
 
-  pub all_looked : length log ≤ i → cut_at end line ≡ whole_of log
+  pub all_looked : length log ≤ i → cut_at end (Some line) ≡ whole_of log
   unfolding whole_from
   all_looked h = sym (ap (whole_from i end line) (drop_of_length-le log {i = i} h)) ∙ l.is
 
@@ -46,7 +47,7 @@ pub first_few : (n : ℕ) (l : List ℕ) → length (take n l) ≤ n
 first_few n l = omega (arith, length-take n l)
 
 module _ (log : List ℕ) where
-  pub all_read : length log ≤ longest_log → cut_at (length log) 0 ≡ cut_of log
+  pub all_read : length log ≤ longest_log → cut_at (length log) None ≡ cut_of log
   unfolding cut_of
   all_read h = rw (le-leb (length log) longest_log h)
 

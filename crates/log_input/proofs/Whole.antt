@@ -1,6 +1,6 @@
 -- A LOG THAT IS CUT: what is read of it are whole lines, and the line behind them has the number that is told; an import of them that stops is the import
 -- of the whole log, whatever stands behind them. Assumes nothing.
-use Rattle.std.specs.Prelude.{if◌then◌else◌}
+use Rattle.std.specs.Prelude.{if◌then◌else◌, Some}
 use Prim.Native.Nat.{ℕ, ◌+◌, ◌≤◌, ◌<◌}
 use mathlib.Core.Path.{◌≡◌, refl, sym, ap, ◌∙◌, subst}
 use mathlib.Core.Bool.{Bool, true, false}
@@ -85,16 +85,16 @@ free_end (d ∷ q) c f h = (f.0, free_end q c f.1 h)
 pub record Whole (log : List ℕ) (c : Cut) : Type 0 where
   pub inside : c.end ≤ length log
   pub closed : Closed (take c.end log)
-  pub count : length (lines_of (take c.end log)) + 1 ≡ c.line
+  pub count : Some (length (lines_of (take c.end log)) + 1) ≡ c.line
 
 module _ (a q : List ℕ) (n i : ℕ) (ends : Closed a) (free : Free q) (lines : length (lines_of a) + 1 ≡ n) (at : i ≡ length a + length q) where
-  stop_whole : Whole (a ++ (q ++ [])) (cut_at (length a) n)
+  stop_whole : Whole (a ++ (q ++ [])) (cut_at (length a) (Some n))
   stop_whole =
       let e : take (length a) (a ++ (q ++ [])) ≡ a = take_at a (q ++ []) (length a) refl in
       record {
         inside = omega (arith, length-append a (q ++ []));
         closed = subst Closed (sym e) ends;
-        count = ap (λ (l : List ℕ). length (lines_of l) + 1) e ∙ lines;
+        count = ap (λ (l : List ℕ). Some (length (lines_of l) + 1)) e ∙ ap Some lines;
       }
 
 whole_from_law : (l a q : List ℕ) (n i : ℕ) → Closed a → Free q → length (lines_of a) + 1 ≡ n → i ≡ length a + length q → Whole (a ++ (q ++ l)) (whole_from i (length a) n l)
@@ -171,7 +171,7 @@ longer n log c w =
     record {
       inside = omega (arith, w.inside, length-take n log);
       closed = subst Closed e w.closed;
-      count = ap (λ (l : List ℕ). length (lines_of l) + 1) (sym e) ∙ w.count;
+      count = ap (λ (l : List ℕ). Some (length (lines_of l) + 1)) (sym e) ∙ w.count;
     }
 
 -- ---- A LOG THAT IS LONGER THAN ITS ROOM

@@ -12,11 +12,11 @@ pub const LONGEST_LOG: usize = 262144;
 // One byte more: it tells a log that is longer.
 pub const READ: usize = LONGEST_LOG + 1;
 
-// How many bytes of a log are read, and the number of the first line that is not, 0 where all are.
-#[derive(Drop)]
+// How many bytes of a log are read, and the number of the first line that is not, if one isn't.
+#[derive(Clone, Copy)]
 pub struct Cut {
     pub end: usize,
-    pub line: usize,
+    pub line: Option<usize>,
 }
 
 // The end of the last line that is whole, and the number of the line behind it.
@@ -26,15 +26,16 @@ fn whole_lines(log: &[u8]) -> Cut
 {
     let mut end = 0;
     let mut line = 1;
-    let mut i = 0;
-    while i < log.len() {
+    for i in 0..log.len() {
         if log[i] == NEWLINE {
             end = i + 1;
             line += 1;
         }
-        i += 1;
     }
-    Cut { end, line }
+    Cut {
+        end,
+        line: Some(line),
+    }
 }
 
 // What of a log is read.
@@ -44,7 +45,7 @@ pub fn part_read(log: &[u8]) -> Cut
     if log.len() <= LONGEST_LOG {
         return Cut {
             end: log.len(),
-            line: 0,
+            line: None,
         };
     }
     whole_lines(&log[..LONGEST_LOG])

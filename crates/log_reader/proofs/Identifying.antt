@@ -1,5 +1,5 @@
 -- The identifier of some digits. Assumes nothing.
-use Rattle.std.specs.Prelude.{if◌then◌else◌}
+use Rattle.std.specs.Prelude.{if◌then◌else◌, Some, None}
 use Prim.Native.Nat.{ℕ, ◌≤◌, ◌<◌}
 use mathlib.Core.Path.{◌≡◌, refl, sym, ap, ap₂, ◌∙◌}
 use mathlib.Core.Bool.{Bool, true, false, not, ◌&&◌}
@@ -12,11 +12,9 @@ use lib.ListN.{length}
 use Rattle.machine.specs.Message.{id_limit}
 use Rattle.text.specs.Text.{value_of}
 use Rattle.text_reader.specs.Reading.{far, near, near_value}
-use Rattle.text_reader.specs.declared.Value.TheVariants.{Number, Bad}
 use Rattle.text_reader.proofs.Digits.{NearNumber, number_there, number_missing, near_under, near_same}
 use Rattle.candump.specs.Line.{only, width_in, id_in, both_in}
 use Rattle.log_reader.specs.Reading.{identified}
-use Rattle.log_reader.specs.declared.Identifier.TheVariants.{Named, Unnamed}
 
 -- every identifier is far below the far number
 pub limit_most : (g : Bool) → id_limit g ≤ 0x1FFF_FFFF
@@ -44,21 +42,21 @@ module _ (l : List ℕ) where
       by false p true q e = refl
       by false p false q e = let z : ◌≡◌ {A = ℕ} 0 1 = cc in absurd (omega arith)
 
-  pub no_width : (not (eqb (length l) 8) && not (eqb (length l) 3)) ≡ true → identified Unnamed ≡ both_in l
+  pub no_width : (not (eqb (length l) 8) && not (eqb (length l) 3)) ≡ true → identified None ≡ both_in l
   unfolding identified both_in bind
   no_width e = sym (rw (neither e))
 
   module _ (w : (not (eqb (length l) 8) && not (eqb (length l) 3)) ≡ false) where
-    pub no_id : Bad ≡ near_value 16 l → identified Unnamed ≡ both_in l
+    pub no_id : None ≡ near_value 16 l → identified None ≡ both_in l
     unfolding identified both_in id_in bind
     no_id e = sym (rw (one_of_both w, number_missing 16 l e))
 
     module _ (v : ℕ) (n : NearNumber 16 l v) where
-      pub over_limit : id_limit (eqb (length l) 8) < v → identified Unnamed ≡ both_in l
+      pub over_limit : id_limit (eqb (length l) 8) < v → identified None ≡ both_in l
       unfolding identified both_in id_in bind only
       over_limit h = sym (rw (one_of_both w, n.is, lt-leb n.exact (id_limit (eqb (length l) 8)) (omega (arith, near_under n.exact, n.nears))))
 
-      pub is_id : v ≤ id_limit (eqb (length l) 8) → identified (Named (eqb (length l) 8) v) ≡ both_in l
+      pub is_id : v ≤ id_limit (eqb (length l) 8) → identified (Some (record { wide = eqb (length l) 8; id = v })) ≡ both_in l
       unfolding identified both_in id_in bind only
       is_id h =
           let same : n.exact ≡ v = sym (near_same n.exact (omega (arith, n.nears, limit_most (eqb (length l) 8)))) ∙ n.nears in

@@ -6,13 +6,11 @@ use mathlib.Core.Bool.{Bool, true, false, ◌&&◌}
 use mathlib.Core.List.{List, [], ◌∷◌}
 use mathlib.Core.Option.{Option, none, some, bind}
 use native.Mathlib.Omega.{arith}
-use borrow.Author.Tests.{le-leb, lt-leb}
 use lib.Dec.{eqb, leb}
 use lib.ListN.{length, get_or}
 use Rattle.codec.specs.Plain.{within}
 use Rattle.machine.specs.Limits.{last_line}
 use Rattle.candump.specs.Line.{nought, can, behind, only, digit_only, bus_in}
-use Rattle.log_reader.specs.Reading.{bus_of}
 
 -- it begins with "can"
 begins : List ℕ → Bool
@@ -80,18 +78,11 @@ module _ (l : List ℕ) (four : length l ≡ 4) where
     unfolding begins
     digit_law = name_law l four ∙ ap (λ (g : Bool). if g then only (within nought (nought + last_line) (get_or l 3 0)) (get_or l 3 0 - nought) else none) e
 
-    pub a_line : (leb nought (get_or l 3 0) && leb (get_or l 3 0) (nought + last_line)) ≡ true → get_or l 3 0 ≤ nought + last_line → bus_of (get_or l 3 0 - nought) ≡ bus_in l
-    unfolding bus_of only within
-    a_line t most =
-        let small : get_or l 3 0 - nought ≤ last_line = omega arith in
-        rw (le-leb (get_or l 3 0 - nought) last_line small)
-        (sym (digit_law ∙ ap (λ (g : Bool). if◌then◌else◌ {A = Option ℕ} g (some (get_or l 3 0 - nought)) none) t))
+    pub a_line : (leb nought (get_or l 3 0) && leb (get_or l 3 0) (nought + last_line)) ≡ true → some (get_or l 3 0 - nought) ≡ bus_in l
+    unfolding only within
+    a_line t =
+        sym (digit_law ∙ ap (λ (g : Bool). if◌then◌else◌ {A = Option ℕ} g (some (get_or l 3 0 - nought)) none) t)
 
     pub no_line : (leb nought (get_or l 3 0) && leb (get_or l 3 0) (nought + last_line)) ≡ false → none ≡ bus_in l
     unfolding only within
     no_line t = sym (digit_law ∙ ap (λ (g : Bool). if◌then◌else◌ {A = Option ℕ} g (some (get_or l 3 0 - nought)) none) t)
-
--- the number that stands for no line
-pub none_is : (l : List ℕ) → none ≡ bus_in l → bus_of 4 ≡ bus_in l
-unfolding bus_of
-none_is l e = e

@@ -1,5 +1,5 @@
 -- The time of a line, part after part. Assumes nothing.
-use Rattle.std.specs.Prelude.{if◌then◌else◌}
+use Rattle.std.specs.Prelude.{if◌then◌else◌, Some, None}
 use Prim.Native.Nat.{ℕ, zero, suc, ◌+◌, ◌-◌, ◌*◌, ◌/◌, ◌%◌, ◌^◌, ◌≤◌, ◌<◌}
 use mathlib.Core.Path.{◌≡◌, refl, sym, ap, ap₂, ◌∙◌}
 use mathlib.Core.List.{List, [], ◌∷◌}
@@ -12,33 +12,31 @@ use lib.Seq.{length-take-le}
 use Rattle.text.specs.Text.{value_of, number_of}
 use Rattle.text.proofs.Text.{number_some}
 use Rattle.text_reader.specs.Reading.{before, far, near, near_value}
-use Rattle.text_reader.specs.declared.Value.TheVariants.{Number, Bad}
 use Rattle.text_reader.proofs.Finding.{found_inside}
 use Rattle.text_reader.proofs.Digits.{near_is, near_most, NearNumber, number_there, number_missing, below_power}
 use Rattle.candump.specs.Line.{second, opens, point, closes, cut, behind, six_in, time_in}
 use Rattle.log_reader.specs.Reading.{near_time, timed, nearer, TimeReads}
-use Rattle.log_reader.specs.declared.Time.TheVariants.{At, Untimed}
 use Rattle.log_reader.proofs.Cutting.{cut_found, cut_missing, begins, begins_not, begins_nothing}
 
 module _ (l : List ℕ) where
-  untimed : time_in l ≡ none → TimeReads l Untimed
+  untimed : time_in l ≡ none → TimeReads l None
   unfolding timed
   untimed e = record { is = sym (ap (map nearer) e); there = tt }
 
-  pub nothing_there : length l < 1 → TimeReads l Untimed
+  pub nothing_there : length l < 1 → TimeReads l None
   unfolding time_in bind
   nothing_there h = untimed (rw (begins_nothing opens l 0 (omega arith)))
 
-  pub not_opened : 0 < length l → (get_or l 0 0 ≡ opens → ⊥) → TimeReads l Untimed
+  pub not_opened : 0 < length l → (get_or l 0 0 ≡ opens → ⊥) → TimeReads l None
   unfolding time_in bind
   not_opened h e = untimed (rw (begins_not opens l 0 h e))
 
   module _ (some_there : 0 < length l) (open_mark : get_or l 0 0 ≡ opens) (dot : ℕ) (found : dot ≡ 1 + before point (drop 1 l)) where
-    pub no_point : length l ≤ dot → TimeReads l Untimed
+    pub no_point : length l ≤ dot → TimeReads l None
     unfolding time_in bind
     no_point h = untimed (rw (begins opens l 0 some_there open_mark, cut_missing point l 1 dot some_there found h))
 
-    pub no_seconds : dot < length l → dot < 2 → TimeReads l Untimed
+    pub no_seconds : dot < length l → dot < 2 → TimeReads l None
     unfolding time_in bind number_of
     no_seconds h k =
         let z : dot - 1 ≡ 0 = omega arith in
@@ -51,7 +49,7 @@ module _ (l : List ℕ) where
       seconds_long : 0 < length (take (dot - 1) (drop 1 l))
       seconds_long = omega (arith, length-take (dot - 1) (drop 1 l), length-drop 1 l)
 
-      pub bad_seconds : Bad ≡ near_value 10 (take (dot - 1) (drop 1 l)) → TimeReads l Untimed
+      pub bad_seconds : None ≡ near_value 10 (take (dot - 1) (drop 1 l)) → TimeReads l None
       unfolding time_in bind
       bad_seconds e =
           untimed
@@ -77,7 +75,7 @@ module _ (l : List ℕ) where
               n.is,
             )
 
-        pub not_closed : length l ≤ end → TimeReads l Untimed
+        pub not_closed : length l ≤ end → TimeReads l None
         unfolding bind
         not_closed h = untimed (on ∙ rw (cut_missing closes l (dot + 1) end next later h))
 
@@ -85,7 +83,7 @@ module _ (l : List ℕ) where
           micro_size : length (take (end - (dot + 1)) (drop (dot + 1) l)) ≡ end - (dot + 1)
           micro_size = length-take-le (end - (dot + 1)) (drop (dot + 1) l) (omega (arith, length-drop (dot + 1) l))
 
-          pub not_six : (end - (dot + 1) ≡ 6 → ⊥) → TimeReads l Untimed
+          pub not_six : (end - (dot + 1) ≡ 6 → ⊥) → TimeReads l None
           unfolding bind six_in
           not_six h =
               untimed
@@ -100,7 +98,7 @@ module _ (l : List ℕ) where
             unfolding six_in
             six_is = rw (eq-eqb (length (take (end - (dot + 1)) (drop (dot + 1) l))) 6 (micro_size ∙ six))
 
-            pub bad_micro : Bad ≡ near_value 10 (take (end - (dot + 1)) (drop (dot + 1) l)) → TimeReads l Untimed
+            pub bad_micro : None ≡ near_value 10 (take (end - (dot + 1)) (drop (dot + 1) l)) → TimeReads l None
             unfolding bind
             bad_micro e =
                 untimed
@@ -112,7 +110,7 @@ module _ (l : List ℕ) where
                 ))
 
             -- THE TIME
-            pub is_timed : (m : ℕ) → NearNumber 10 (take (end - (dot + 1)) (drop (dot + 1) l)) m → TimeReads l (At (s * second + m) (end + 1))
+            pub is_timed : (m : ℕ) → NearNumber 10 (take (end - (dot + 1)) (drop (dot + 1) l)) m → TimeReads l (Some (record { time = s * second + m; next = end + 1 }))
             unfolding bind timed nearer near_time
             is_timed m k =
                 let M : ℕ = k.exact in

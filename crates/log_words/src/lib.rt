@@ -1,7 +1,8 @@
 // What the programs of logs are told and say: the start that they are given, and what stopped an import, in words.
 #![tactic(auto)]
 
-use start_time::Start;
+use candump::Stop;
+use start_time::StartError;
 use std::env::FillError;
 use std::io;
 use std::rt::Env;
@@ -16,62 +17,37 @@ fn has(rt: &impl Env, place: usize) -> bool {
 }
 
 // The start that the program's only argument says; where it says none, why.
-fn given(rt: &impl Env) -> Start {
+fn given(rt: &impl Env) -> Result<u64, StartError> {
     let mut text = [0u8; ROOM];
     if has(rt, 2) {
-        return Start::Unreadable;
+        return Err(StartError::Unreadable);
     }
     let Ok(n) = rt.arg(1, &mut text) else {
-        return Start::Unreadable;
+        return Err(StartError::Unreadable);
     };
     start_time::read_start(&text[..n])
 }
 
 // The start that the program was given; where there is none, a line behind a label says why.
-pub fn start(rt: &impl Env, out: &impl Print, label: &[u8]) -> io::Result<Start> {
-    let said = given(rt);
-    match said {
-        Start::At(_) => {}
-        Start::Late => {
+pub fn start(rt: &impl Env, out: &impl Print, label: &[u8]) -> io::Result<Option<u64>> {
+    match given(rt) {
+        Ok(start) => Ok(Some(start)),
+        Err(why) => {
             out.write_all(label)?;
-            out.write_all(b"bad start: it is over 4000000000 seconds\n")?;
-        }
-        Start::Unreadable => {
-            out.write_all(label)?;
-            out.write_all(
-                b"bad start: it must be seconds, alone or with a point and one to six decimals\n",
-            )?;
+            println!(out; "bad start: {why}")?;
+            Ok(None)
         }
     }
-    Ok(said)
 }
-// Names a line behind a label.
-fn name_line(out: &impl Print, label: &[u8], line: usize) -> io::Result<()> {
+
+// Says which line stopped an import and why, on a line of its own behind a label.
+pub fn stopped(out: &impl Print, label: &[u8], line: usize, why: Stop) -> io::Result<()> {
     out.write_all(label)?;
-    print!(out; "line {line}")
+    println!(out; "line {line}: {why}")
 }
 
-// Says which line stopped an import and why, if one did, on a line of its own behind a label.
-pub fn stopped(out: &impl Print, label: &[u8], line: usize, reason: u32) -> io::Result<()> {
-    if reason == candump::GOES_ON {
-        return Ok(());
-    }
-    name_line(out, label, line)?;
-    match reason {
-        candump::MALFORMED => out.write_all(
-            b": malformed, it is not written as (1436509052.249713) can0 044#2A366C2B\n",
-        ),
-        candump::UNKNOWN => out.write_all(b": unknown name, only can0 to can3 are lines\n"),
-        candump::GOES_BACK => { out.write_all(b": its time goes back, or lies before the start\n") }
-        _ => out.write_all(b": it would take the recording past 32768 bytes\n"),
-    }
-}
-
-// Says from which line on a log was not read, if that is so, on a line of its own behind a label.
+// Says from which line on a log was not read, on a line of its own behind a label.
 pub fn unread(out: &impl Print, label: &[u8], line: usize) -> io::Result<()> {
-    if line == 0 {
-        return Ok(());
-    }
-    name_line(out, label, line)?;
-    out.write_all(b": not read, the log has more than 262144 bytes\n")
+    out.write_all(label)?;
+    println!(out; "line {line}: not read, the log has more than 262144 bytes")
 }

@@ -37,9 +37,7 @@ fn put_fixed(out: &mut [u8], at: usize, base: u64, count: usize, value: u64) -> 
     ensures { Put out.old at (fixed base count value) result out.new }
 {
     let mut rest = value;
-    let mut k = count;
-    while k > 0 {
-        k -= 1;
+    for k in (0..count).rev() {
         out[at + k] = digit_of(rest % base);
         rest /= base;
     }
@@ -52,6 +50,7 @@ fn digits_of(value: u64) -> usize
 {
     let mut n = 1;
     let mut rest = value;
+    // the number is divided until a digit is left: no index is counted
     while rest >= TEN {
         rest /= TEN;
         n += 1;
@@ -91,11 +90,8 @@ fn put_data(out: &mut [u8], at: usize, bytes: &[u8]) -> usize
     ensures { Put out.old at (data_text bytes.now) result out.new }
 {
     let mut place = at;
-    let mut i = 0;
-    while i < bytes.len() {
-        let next = put_fixed(out, place, SIXTEEN, candump::BYTE_DIGITS, bytes[i] as u64);
-        place = next;
-        i += 1;
+    for byte in bytes {
+        place = put_fixed(out, place, SIXTEEN, candump::BYTE_DIGITS, *byte as u64);
     }
     place
 }

@@ -2,11 +2,13 @@
 #![tactic(auto)]
 
 ghost use Rattle.std.specs.Prelude.{◌≡◌, ◌+◌, ◌-◌, ◌≤◌, length};
+ghost use Rattle.codes.specs.Code.{code_of};
 ghost use Rattle.machine.specs.Limits.{record_size, least_data, most_data, data_in};
 ghost use Rattle.machine.specs.Message.{message_code, wide_of, size_of, clean};
 ghost use Rattle.layout.specs.Record.{rec36};
 ghost use Rattle.message.specs.Check.{code_within, clean_bytes};
 
+use codes::Refusal;
 use places::{DATA_IN, NUMBER, ROW, SIZE_IN, TX_FLAGS_IN};
 
 // The sizes of a message of raw CAN: from its identifier alone to a row.
@@ -22,29 +24,35 @@ pub fn is_wide(m: &[u8]) -> bool
     integers::word_at(m, TX_FLAGS_IN) / 0x100 % 2 == 1
 }
 
-// The code of a message of a protocol and of a size within limits, to send on a connection of these flags; 0x00 where it is good.
-pub fn code_within(m: &[u8], flags: u32, protocol: u32, least: u32, most: u32) -> u32
+// The checks of a message of a protocol and of a size within limits, to send on a connection of these flags.
+pub fn code_within(
+    m: &[u8],
+    flags: u32,
+    protocol: u32,
+    least: u32,
+    most: u32,
+) -> Result<(), Refusal>
     requires { (record_size ≤ length m.now) × (least_data ≤ least) }
-    ensures { result ≡ code_within protocol least most flags m.now }
+    ensures { code_of result ≡ code_within protocol least most flags m.now }
 {
     if integers::word_at(m, 0) != protocol {
-        return codes::ERR_MSG_PROTOCOL_ID;
+        return Err(Refusal::MsgProtocolId);
     }
     let size = integers::word_at(m, SIZE_IN);
     if size < least {
-        return codes::ERR_INVALID_MSG;
+        return Err(Refusal::InvalidMsg);
     }
     if size > most {
-        return codes::ERR_INVALID_MSG;
+        return Err(Refusal::InvalidMsg);
     }
     let wide = is_wide(m);
     if !can::takes_width(flags, wide) {
-        return codes::ERR_INVALID_MSG;
+        return Err(Refusal::InvalidMsg);
     }
     if can::id_limit(wide) < integers::id_at(m, DATA_IN) {
-        return codes::ERR_INVALID_MSG;
+        return Err(Refusal::InvalidMsg);
     }
-    codes::STATUS_NOERROR
+    Ok(())
 }
 
 // The clean record of a message whose size is good, with a protocol, over the whole of a cell.
@@ -59,10 +67,10 @@ pub fn put_bytes(cell: &mut [u8], m: &[u8], protocol: u32)
     records::put_padded(&mut cell[DATA_IN..], &m[DATA_IN..e]);
 }
 
-// The code of a message of raw CAN.
-pub fn message_code(m: &[u8], flags: u32) -> u32
+// The checks of a message of raw CAN.
+pub fn message_code(m: &[u8], flags: u32) -> Result<(), Refusal>
     requires { record_size ≤ length m.now }
-    ensures { result ≡ message_code flags m.now }
+    ensures { code_of result ≡ message_code flags m.now }
 {
     code_within(m, flags, can::PROTOCOL, LEAST, MOST)
 }

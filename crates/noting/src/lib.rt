@@ -8,27 +8,34 @@ ghost use Rattle.layout.specs.Sizes.{region_size};
 ghost use Rattle.machine.specs.Channel.{last_error};
 ghost use Rattle.layout.specs.Promise.{gives, Opened, call_outcome, noted_in};
 
-// Is this 0x00 or a code that a call on an open channel can give? The list is looked through from its end.
+use codes::Refusal;
+
+// What a call on an open channel can give.
+const KEPT: [u32; 17] = [
+    codes::STATUS_NOERROR,
+    Refusal::NotSupported as u32,
+    Refusal::NullParameter as u32,
+    Refusal::InvalidIoctlValue as u32,
+    Refusal::Failed as u32,
+    Refusal::Timeout as u32,
+    Refusal::InvalidMsg as u32,
+    Refusal::InvalidTimeInterval as u32,
+    Refusal::ExceededLimit as u32,
+    Refusal::InvalidMsgId as u32,
+    Refusal::InvalidIoctlId as u32,
+    Refusal::BufferEmpty as u32,
+    Refusal::BufferFull as u32,
+    Refusal::BufferOverflow as u32,
+    Refusal::ChannelInUse as u32,
+    Refusal::MsgProtocolId as u32,
+    Refusal::InvalidFilterId as u32,
+];
+
+// Is this 0x00 or a code that a call on an open channel can give?
 pub fn is_kept(code: u32) -> bool
     ensures { result ≡ member code call_codes }
 {
-    let kept = code == codes::ERR_INVALID_FILTER_ID;
-    let kept = (code == codes::ERR_MSG_PROTOCOL_ID) | kept;
-    let kept = (code == codes::ERR_CHANNEL_IN_USE) | kept;
-    let kept = (code == codes::ERR_BUFFER_OVERFLOW) | kept;
-    let kept = (code == codes::ERR_BUFFER_FULL) | kept;
-    let kept = (code == codes::ERR_BUFFER_EMPTY) | kept;
-    let kept = (code == codes::ERR_INVALID_IOCTL_ID) | kept;
-    let kept = (code == codes::ERR_INVALID_MSG_ID) | kept;
-    let kept = (code == codes::ERR_EXCEEDED_LIMIT) | kept;
-    let kept = (code == codes::ERR_INVALID_TIME_INTERVAL) | kept;
-    let kept = (code == codes::ERR_INVALID_MSG) | kept;
-    let kept = (code == codes::ERR_TIMEOUT) | kept;
-    let kept = (code == codes::ERR_FAILED) | kept;
-    let kept = (code == codes::ERR_INVALID_IOCTL_VALUE) | kept;
-    let kept = (code == codes::ERR_NULL_PARAMETER) | kept;
-    let kept = (code == codes::ERR_NOT_SUPPORTED) | kept;
-    (code == codes::STATUS_NOERROR) | kept
+    KEPT.contains(&code)
 }
 
 // Notes a code as the last of the channel whose region begins at a place; 0x00 is not noted.

@@ -1,83 +1,38 @@
-// The arguments of the events that have numbers alone.
+// The arguments of the events that have three numbers or more, or an n.
 #![tactic(auto)]
 
-ghost use Rattle.std.specs.Prelude.{◌⊎◌, ◌≡◌};
 ghost use Rattle.events.specs.Found.{ReadsArguments};
+ghost use Rattle.reader.specs.Cursor.{behind};
 
-use event_parts::Pair;
-use events::{Event, Found, Giving, Plain};
-use number::Number;
-
-// The arguments of an event of one number.
-pub fn one(recording: &[u8], at: usize, kind: u32) -> Found
-    requires { (kind ≡ 2) ⊎ ((kind ≡ 4) ⊎ ((kind ≡ 12) ⊎ (kind ≡ 13))) }
-    ensures { ReadsArguments kind recording.now at result }
-{
-    let Number::Value { value, next } = reader::read_number(recording, at) else {
-        return Found::Bad;
-    };
-    match kind {
-        2 => Found::Good(Event::Code(Plain::Disconnect(value)), next),
-        4 => Found::Good(Event::Code(Plain::Advance(value)), next),
-        12 => Found::Good(Event::Take(value), next),
-        _ => Found::Good(Event::Code(Plain::Sent(value)), next),
-    }
-}
-
-// The arguments of an event of two numbers.
-pub fn both(recording: &[u8], at: usize, kind: u32) -> Found
-    requires { (kind ≡ 7) ⊎ ((kind ≡ 9) ⊎ ((kind ≡ 14) ⊎ (kind ≡ 15))) }
-    ensures { ReadsArguments kind recording.now at result }
-{
-    let Pair::Two(channel, second, next) = event_parts::two(recording, at) else {
-        return Found::Bad;
-    };
-    match kind {
-        7 => Found::Good(Event::Code(Plain::StopFilter(channel, second)), next),
-        9 => Found::Good(Event::Code(Plain::StopPeriodic(channel, second)), next),
-        14 => Found::Good(Event::Code(Plain::Clear(channel, second)), next),
-        _ => Found::Good(Event::Number(Giving::Get(channel, second)), next),
-    }
-}
+use events::{Event, Giving, Plain};
+use reader::Reader;
 
 // The arguments of a read.
-pub fn read(recording: &[u8], at: usize) -> Found
-    ensures { ReadsArguments 11 recording.now at result }
+pub fn read(r: &mut Reader) -> Option<Event>
+    ensures { ReadsArguments 11 r.old.recording.now r.old.at (behind result r.new.at) }
 {
-    let Pair::Two(channel, n, next) = event_parts::two(recording, at) else {
-        return Found::Bad;
-    };
-    if n > recording_sizes::MOST {
-        return Found::Bad;
-    }
-    Found::Good(Event::Read(channel, n), next)
+    let channel = r.next_number()?;
+    let n = event_parts::at_most64(r)?;
+    Some(Event::Read(channel, n))
 }
 
 // The arguments of a connect.
-pub fn connect(recording: &[u8], at: usize) -> Found
-    ensures { ReadsArguments 1 recording.now at result }
+pub fn connect(r: &mut Reader) -> Option<Event>
+    ensures { ReadsArguments 1 r.old.recording.now r.old.at (behind result r.new.at) }
 {
-    let Pair::Two(line, protocol, half) = event_parts::two(recording, at) else {
-        return Found::Bad;
-    };
-    let Pair::Two(flags, rate, next) = event_parts::two(recording, half) else {
-        return Found::Bad;
-    };
-    Found::Good(
-        Event::Number(Giving::Connect(line, protocol, flags, rate)),
-        next,
-    )
+    let line = r.next_number()?;
+    let protocol = r.next_number()?;
+    let flags = r.next_number()?;
+    let rate = r.next_number()?;
+    Some(Event::Number(Giving::Connect(line, protocol, flags, rate)))
 }
 
 // The arguments of a set.
-pub fn set(recording: &[u8], at: usize) -> Found
-    ensures { ReadsArguments 16 recording.now at result }
+pub fn set(r: &mut Reader) -> Option<Event>
+    ensures { ReadsArguments 16 r.old.recording.now r.old.at (behind result r.new.at) }
 {
-    let Pair::Two(channel, parameter, third) = event_parts::two(recording, at) else {
-        return Found::Bad;
-    };
-    let Number::Value { value, next } = reader::read_number(recording, third) else {
-        return Found::Bad;
-    };
-    Found::Good(Event::Code(Plain::Set(channel, parameter, value)), next)
+    let channel = r.next_number()?;
+    let parameter = r.next_number()?;
+    let value = r.next_number()?;
+    Some(Event::Code(Plain::Set(channel, parameter, value)))
 }

@@ -6,20 +6,20 @@ ghost use Rattle.std.proofs.Math.Option.{map};
 ghost use Rattle.telegram.specs.Telegram.{opening_of, read_opening, id_at, opening as opens};
 ghost use Rattle.telegram_types.specs.Face.{told, answering};
 
-use codes::STATUS_NOERROR;
+use codes::Refusal;
 use telegram_answers::{carried, only_if, refused};
-use telegram_types::{Answer, Opening, Taken, Telegram};
+use telegram_types::{Answer, Opening, POSITIVE, SET_UP, Telegram};
 
 // The number of the two bytes at `at`, the lower one first.
 fn id_at(bytes: &[u8], at: usize) -> u16
     requires { at + 1 < length bytes.now }
     ensures { result ≡ id_at bytes.now at }
 {
-    bytes[at] as u16 + 256 * (bytes[at + 1] as u16)
+    u16::from_le_bytes([bytes[at], bytes[at + 1]])
 }
 
 // A set-up: its TX-ID isn't given.
-fn set_up(identifier: u32, bytes: &[u8]) -> Answer
+fn set_up(identifier: u32, bytes: &[u8]) -> Result<Answer, Refusal>
     requires { (length bytes.now ≡ 7) × (get_or bytes.now 1 0 ≡ 0xC0) }
     ensures { told result ≡ answering (map (opens identifier) (opening_of bytes.now)) }
 {
@@ -41,7 +41,7 @@ fn set_up(identifier: u32, bytes: &[u8]) -> Answer
 }
 
 // A positive reply.
-fn positive(identifier: u32, bytes: &[u8]) -> Answer
+fn positive(identifier: u32, bytes: &[u8]) -> Result<Answer, Refusal>
     requires { (length bytes.now ≡ 7) × (get_or bytes.now 1 0 ≡ 0xD0) }
     ensures { told result ≡ answering (map (opens identifier) (opening_of bytes.now)) }
 {
@@ -65,31 +65,30 @@ fn positive(identifier: u32, bytes: &[u8]) -> Answer
 }
 
 // A negative reply, or no telegram.
-fn negative(identifier: u32, bytes: &[u8]) -> Answer
+fn negative(identifier: u32, bytes: &[u8]) -> Result<Answer, Refusal>
     requires { (length bytes.now ≡ 7) × ((get_or bytes.now 1 0 ≡ 0xC0 → ⊥) × (get_or bytes.now 1 0 ≡ 0xD0 → ⊥)) }
     ensures { told result ≡ answering (map (opens identifier) (opening_of bytes.now)) }
 {
     let kind = bytes[1];
     if telegram_fields::negative(kind) {
         let payload = carried(bytes, 2);
-        return Answer {
-            code: STATUS_NOERROR,
-            taken: Taken::Yes(Telegram::Opening(
+        return Ok(Answer {
+            telegram: Telegram::Opening(
                 identifier,
                 Opening::Negative {
                     destination: bytes[0],
                     kind,
                 },
-            )),
+            ),
             payload,
             len: 5,
-        };
+        });
     }
     refused()
 }
 
 // An opening telegram under its identifier.
-pub fn opening(identifier: u32, bytes: &[u8]) -> Answer
+pub fn opening(identifier: u32, bytes: &[u8]) -> Result<Answer, Refusal>
     ensures { told result ≡ answering (map (opens identifier) (read_opening identifier bytes.now)) }
 {
     if bytes.len() != 7 {
@@ -99,10 +98,10 @@ pub fn opening(identifier: u32, bytes: &[u8]) -> Answer
         return refused();
     }
     let kind = bytes[1];
-    if kind == 0xC0 {
+    if kind == SET_UP {
         return set_up(identifier, bytes);
     }
-    if kind == 0xD0 {
+    if kind == POSITIVE {
         return positive(identifier, bytes);
     }
     negative(identifier, bytes)

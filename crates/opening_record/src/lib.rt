@@ -1,99 +1,84 @@
-// The opening telegram that a record says: the fields that its kind has, compared as whole numbers before they are narrowed.
+// The opening telegram that a record says: the fields that its kind has, where each is narrow enough.
 #![tactic(auto)]
 
-ghost use Rattle.std.specs.Prelude.{◌≡◌, ◌%◌, ◌≤◌, length};
+ghost use Rattle.std.specs.Prelude.{◌≡◌, ◌≤◌, length};
 ghost use Rattle.std.proofs.Math.Option.{some};
 ghost use Rattle.telegram_types.specs.Face.{taken_said};
-ghost use Rattle.telegram_record.specs.Record.{kept, carried_in, set_up_in, positive_in, negative_in, opening_in};
+ghost use Rattle.telegram_record.specs.Record.{kept, byte_in, carried_in, set_up_in, positive_in, negative_in, opening_in};
 
-use integers::{low, word_at};
-use telegram_record::only_if;
-use telegram_types::{Opening, Taken, Telegram};
+use integers::word_at;
+use telegram_record::byte_at;
+use telegram_types::{Opening, POSITIVE, SET_UP, Telegram};
 
-// The lower two bytes of a number.
-fn lower(x: u32) -> u16
-    ensures { result ≡ x % 65536 }
+// The destination, where it is a byte.
+fn destination_in(bytes: &[u8]) -> Option<u8>
+    requires { 32 ≤ length bytes.now }
+    ensures { result ≡ byte_in 8 bytes.now }
 {
-    (x % 65536) as u16
+    byte_at(bytes, 8)
 }
 
 // A set-up.
-fn set_up(bytes: &[u8]) -> Taken
+fn set_up(bytes: &[u8]) -> Option<Telegram>
     requires { 32 ≤ length bytes.now }
     ensures { kept (taken_said result (carried_in bytes.now)) ≡ kept (some (set_up_in bytes.now)) }
 {
     let identifier = word_at(bytes, 4);
-    let destination = word_at(bytes, 8);
-    let rx_id = word_at(bytes, 12);
-    let application = word_at(bytes, 16);
-    only_if(
-        (destination <= 0xFF) & ((rx_id <= 0xFFFF) & (application <= 0xFF)),
-        Telegram::Opening(
-            identifier,
-            Opening::SetUp {
-                destination: low(destination),
-                rx_id: lower(rx_id),
-                application: low(application),
-            },
-        ),
-    )
+    let destination = destination_in(bytes)?;
+    let rx_id = u16::try_from(word_at(bytes, 12)).ok()?;
+    let application = byte_at(bytes, 16)?;
+    Some(Telegram::Opening(
+        identifier,
+        Opening::SetUp {
+            destination,
+            rx_id,
+            application,
+        },
+    ))
 }
 
 // A positive reply.
-fn positive(bytes: &[u8]) -> Taken
+fn positive(bytes: &[u8]) -> Option<Telegram>
     requires { 32 ≤ length bytes.now }
     ensures { kept (taken_said result (carried_in bytes.now)) ≡ kept (some (positive_in bytes.now)) }
 {
     let identifier = word_at(bytes, 4);
-    let destination = word_at(bytes, 8);
-    let tx_id = word_at(bytes, 12);
-    let rx_id = word_at(bytes, 16);
-    let application = word_at(bytes, 20);
-    let ids = (tx_id <= 0xFFFF) & (rx_id <= 0xFFFF);
-    only_if(
-        ids & ((destination <= 0xFF) & (application <= 0xFF)),
-        Telegram::Opening(
-            identifier,
-            Opening::Positive {
-                destination: low(destination),
-                tx_id: lower(tx_id),
-                rx_id: lower(rx_id),
-                application: low(application),
-            },
-        ),
-    )
+    let destination = destination_in(bytes)?;
+    let tx_id = u16::try_from(word_at(bytes, 12)).ok()?;
+    let rx_id = u16::try_from(word_at(bytes, 16)).ok()?;
+    let application = byte_at(bytes, 20)?;
+    Some(Telegram::Opening(
+        identifier,
+        Opening::Positive {
+            destination,
+            tx_id,
+            rx_id,
+            application,
+        },
+    ))
 }
 
 // A negative reply.
-fn negative(bytes: &[u8]) -> Taken
+fn negative(bytes: &[u8]) -> Option<Telegram>
     requires { 32 ≤ length bytes.now }
     ensures { kept (taken_said result (carried_in bytes.now)) ≡ kept (some (negative_in bytes.now)) }
 {
-    let kind = word_at(bytes, 0);
     let identifier = word_at(bytes, 4);
-    let destination = word_at(bytes, 8);
-    only_if(
-        (destination <= 0xFF) & (kind <= 0xFF),
-        Telegram::Opening(
-            identifier,
-            Opening::Negative {
-                destination: low(destination),
-                kind: low(kind),
-            },
-        ),
-    )
+    let destination = destination_in(bytes)?;
+    let kind = byte_at(bytes, 0)?;
+    Some(Telegram::Opening(identifier, Opening::Negative { destination, kind }))
 }
 
 // An opening telegram.
-pub fn opening(bytes: &[u8]) -> Taken
+pub fn opening(bytes: &[u8]) -> Option<Telegram>
     requires { 32 ≤ length bytes.now }
     ensures { kept (taken_said result (carried_in bytes.now)) ≡ kept (opening_in bytes.now) }
 {
     let kind = word_at(bytes, 0);
-    if kind == 0xC0 {
+    if kind == SET_UP as u32 {
         return set_up(bytes);
     }
-    if kind == 0xD0 {
+    if kind == POSITIVE as u32 {
         return positive(bytes);
     }
     negative(bytes)

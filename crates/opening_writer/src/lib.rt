@@ -5,17 +5,18 @@ ghost use Rattle.std.specs.Prelude.{◌≡◌, ◌≤◌, length};
 ghost use Rattle.telegram.specs.Telegram.{set_up, positive as positive_reply, negative as negative_reply, fields_fit, opening_fits, opening_bytes};
 ghost use Rattle.telegram_types.specs.Face.{wrote, written_if, opening_said};
 
+use codes::Refusal;
 use telegram_bytes::{all, both, refused};
-use telegram_types::{Opening, Written};
+use telegram_types::{Opening, POSITIVE, SET_UP};
 
 // A set-up: its TX-ID isn't given.
-fn set_up(destination: u8, rx_id: u16, application: u8, buf: &mut [u8]) -> Written
+fn set_up(destination: u8, rx_id: u16, application: u8, buf: &mut [u8]) -> Result<usize, Refusal>
     requires { 8 ≤ length buf.old }
     ensures { wrote result buf.new ≡ written_if (fields_fit (set_up destination rx_id application)) (opening_bytes (set_up destination rx_id application)) buf.old }
 {
     let bytes = [
         destination,
-        0xC0,
+        SET_UP,
         0x00,
         0x10,
         (rx_id % 256) as u8,
@@ -28,13 +29,19 @@ fn set_up(destination: u8, rx_id: u16, application: u8, buf: &mut [u8]) -> Writt
 }
 
 // A positive reply.
-fn positive(destination: u8, tx_id: u16, rx_id: u16, application: u8, buf: &mut [u8]) -> Written
+fn positive(
+    destination: u8,
+    tx_id: u16,
+    rx_id: u16,
+    application: u8,
+    buf: &mut [u8],
+) -> Result<usize, Refusal>
     requires { 8 ≤ length buf.old }
     ensures { wrote result buf.new ≡ written_if (fields_fit (positive_reply destination tx_id rx_id application)) (opening_bytes (positive_reply destination tx_id rx_id application)) buf.old }
 {
     let bytes = [
         destination,
-        0xD0,
+        POSITIVE,
         (tx_id % 256) as u8,
         (tx_id / 256) as u8,
         (rx_id % 256) as u8,
@@ -48,7 +55,7 @@ fn positive(destination: u8, tx_id: u16, rx_id: u16, application: u8, buf: &mut 
 }
 
 // A negative reply: it carries five bytes.
-fn negative(destination: u8, kind: u8, bytes: &[u8], buf: &mut [u8]) -> Written
+fn negative(destination: u8, kind: u8, bytes: &[u8], buf: &mut [u8]) -> Result<usize, Refusal>
     requires { 8 ≤ length buf.old }
     ensures { wrote result buf.new ≡ written_if (fields_fit (negative_reply destination kind bytes.now)) (opening_bytes (negative_reply destination kind bytes.now)) buf.old }
 {
@@ -63,7 +70,7 @@ fn negative(destination: u8, kind: u8, bytes: &[u8], buf: &mut [u8]) -> Written
 }
 
 // An opening telegram under its identifier.
-pub fn opening(identifier: u32, o: Opening, bytes: &[u8], buf: &mut [u8]) -> Written
+pub fn opening(identifier: u32, o: Opening, bytes: &[u8], buf: &mut [u8]) -> Result<usize, Refusal>
     requires { 8 ≤ length buf.old }
     ensures { wrote result buf.new ≡ written_if (opening_fits identifier (opening_said o bytes.now)) (opening_bytes (opening_said o bytes.now)) buf.old }
 {

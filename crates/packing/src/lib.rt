@@ -2,28 +2,30 @@
 #![tactic(auto)]
 
 ghost use Rattle.std.specs.Prelude.{◌≡◌};
+ghost use Rattle.codes.specs.Code.{code_of};
 ghost use Rattle.telegram.specs.Telegram.{read_any};
 ghost use Rattle.telegram_record.specs.Crossing.{gave, reading};
 
-use codes::{ERR_NULL_PARAMETER, STATUS_NOERROR};
+use codes::Refusal;
 use record_writer::RECORD;
 pub use record_writer::write;
 
 // The record of the telegram that `bytes` are, over the start of a buffer.
-pub fn read(opening: bool, identifier: u32, bytes: &[u8], telegram: &mut [u8]) -> u32
-    ensures { gave result 0 telegram.new ≡ reading (read_any opening identifier bytes.now) telegram.old }
+pub fn read(
+    opening: bool,
+    identifier: u32,
+    bytes: &[u8],
+    telegram: &mut [u8],
+) -> Result<(), Refusal>
+    ensures { gave (code_of result) 0 telegram.new ≡ reading (read_any opening identifier bytes.now) telegram.old }
 {
     if telegram.len() < RECORD {
-        return ERR_NULL_PARAMETER;
+        return Err(Refusal::NullParameter);
     }
-    let named = tp20::name(opening, identifier, bytes);
-    let code = named.code;
-    if code != STATUS_NOERROR {
-        return code;
-    }
+    let named = tp20::name(opening, identifier, bytes)?;
     let fields = named.fields;
     let payload = named.payload;
     let record = telegram_record::pack(named.kind, fields, named.len as u8, payload);
     octets::copy(&mut telegram[..32], &record);
-    STATUS_NOERROR
+    Ok(())
 }

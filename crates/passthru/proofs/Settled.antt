@@ -2,6 +2,7 @@
 -- is the code, and what is left in the memory, in a lent buffer and behind a pointer. Assumes nothing.
 use mathlib.Core.Path.{◌≡◌, refl, sym, ap, ◌∙◌}
 use Prim.Native.Nat.{ℕ}
+use mathlib.Core.List.{List, []}
 use seplogic.Ra.Ura.{Ura}
 use base.Logic.{SProp}
 use prog.Memory.{Memory}
@@ -11,7 +12,15 @@ use contract.Lifetimes.{Lfts}
 use contract.Monad.{Fun, fact}
 use denote.Triple.Clauses.{AtExit}
 use denote.Triple.Entry.{Args}
-use Rattle.device_lists.specs.Lists.{SetPost, GetPost}
+use Rattle.codec.specs.Settled.{Settled}
+use Rattle.machine.specs.Codes.{two_rates}
+use Rattle.machine.specs.Channel.{flat, get_list, set_list}
+use Rattle.machine.specs.Step.{call}
+use Rattle.layout.specs.Promise.{gives}
+use Rattle.memory.specs.Promise.{outcome}
+use Rattle.device_lists.specs.declared.Pair.{Pair}
+use Rattle.device_lists.specs.Lists.{listed}
+use Rattle.device_lists.proofs.Settled.{pairs_of, back}
 use Rattle.passthru.specs.contracts.trawl_set_list as trawl-set-list
 use Rattle.passthru.specs.contracts.trawl_get_list as trawl-get-list
 use Rattle.device.proofs.Settled.{OneOutcome}
@@ -175,8 +184,22 @@ trawl_time_settled κs a x y p q = alike (p ∙ sym q) (λ s. (s, x.1))
 pub trawl_replay_settled : OneOutcome 5 trawl_replay_kinds.ps trawl_replay_kinds.r trawl-replay.Post
 trawl_replay_settled κs a x y p q = alike (p ∙ sym q) (λ s. (s.code, (s.memory, (tt, (s.at, (s.buffer, (s.size, tt)))))))
 
--- the two lists, whose functions take a slice of structs: their postconditions are `SetPost` and `GetPost`, of which any two outcomes are equal (device,
--- Settled `set_list_settled`, `get_list_settled`)
+-- what the two lists promise: of a set the code and the memory that it leaves, of a get the list too
+abbrev pub SetPost : List ℕ → ℕ → List Pair → ℕ × List ℕ → Type 0
+SetPost m k ps x = gives x.0 0 [] x.1 ≡ outcome two_rates m (call k (set_list (listed ps)))
+
+abbrev pub GetPost : List ℕ → ℕ → List Pair → ℕ × (List ℕ × List Pair) → Type 0
+GetPost m k ps x = gives x.0 0 (flat (listed x.1.1)) x.1.0 ≡ outcome two_rates m (call k (get_list (listed ps)))
+
+pub trawl_set_list_settled : (m : List ℕ) (k : ℕ) (ps : List Pair) → Settled (SetPost m k ps)
+trawl_set_list_settled m k ps x y p q = alike (p ∙ sym q) (λ s. (s.code, s.memory))
+
+pub trawl_get_list_settled : (m : List ℕ) (k : ℕ) (ps : List Pair) → Settled (GetPost m k ps)
+trawl_get_list_settled m k ps x y p q =
+    ap (λ (l : List Pair). (x.0, (x.1.0, l))) (sym (back x.1.1)) ∙ alike (p ∙ sym q) (λ s. (s.code, (s.memory, pairs_of s.buffer)))
+    ∙ ap (λ (l : List Pair). (y.0, (y.1.0, l))) (back y.1.1)
+
+-- these are the postconditions of the two functions, which take a slice of structs
 module _ {M : Type 1} {𝓤 : Ura M} (𝓛 : Logic 𝓤) (at_mem : Memory → SProp 𝓤) (run : Routine → Fun 𝓤) (κs : Lfts 2) where
   pub trawl_set_list_says : (a : Args trawl-set-list.signature κs) (c : ℕ) (e : AtExit trawl-set-list.ended κs)
       → (trawl-set-list.clauses 𝓛 at_mem run κs a).ensures tt c e ≡ fact 𝓤 (SetPost a.0.now a.1.0 a.1.1.0.now (c, e.0.now))

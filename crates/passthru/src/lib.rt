@@ -2,6 +2,7 @@
 #![tactic(auto)]
 
 ghost use Rattle.std.specs.Prelude.{◌≡◌, [], not, eqb};
+ghost use Rattle.codes.specs.Code.{code_of, value_of};
 ghost use Rattle.machine.specs.Codes.{two_rates};
 ghost use Rattle.machine.specs.Channel.{disconnect, clear, write, read, take_next, sent, start_filter, start_flow, stop_filter, start_periodic, stop_periodic, get_parameter, set_parameter, last_error, get_list, set_list, flat, link_open, link_send, link_receive, link_end, decide, save_setup, load_setup};
 ghost use Rattle.machine.specs.Step.{call, connect, close, advance, frame};
@@ -15,13 +16,22 @@ ghost use Rattle.telegram.specs.Telegram.{time_of, read_any};
 ghost use Rattle.recording.specs.Replay.{leaves, pieced};
 ghost use Rattle.telegram_record.specs.Crossing.{gave, reading, writing};
 
-use device::Pair;
+use codes::Refusal;
+use device::{Asking, Pair};
 
 // A test as a number.
 fn bit(b: bool) -> u32
     ensures { result ≡ bit_value b }
 {
-    if b { 1 } else { 0 }
+    u32::from(b)
+}
+
+// How an answer crosses: its number behind the lent pointer, its code as the result.
+fn crossed(answer: Result<u32, Refusal>, number: &mut u32) -> u32
+    ensures { (result ≡ code_of answer) × (number.new ≡ value_of answer) }
+{
+    *number = codes::value_of(answer);
+    codes::code_of(answer)
 }
 
 // 1 where the bytes are a device memory, else 0.
@@ -37,7 +47,7 @@ pub extern "C" fn trawl_valid(mem: &[u8]) -> u32
 pub extern "C" fn trawl_power_on(mem: &mut [u8]) -> u32
     ensures { gives result 0 [] mem.new ≡ power_on_outcome mem.old }
 {
-    device::power_on(mem)
+    codes::code_of(device::power_on(mem))
 }
 
 // Opens the channel of a line and gives its number.
@@ -52,9 +62,7 @@ pub extern "C" fn trawl_connect(
 ) -> u32
     ensures { gives result channel.new [] mem.new ≡ outcome two_rates mem.old (connect line protocol flags rate) }
 {
-    let answer = device::connect(mem, line, protocol, flags, rate);
-    *channel = answer.value;
-    answer.code
+    crossed(device::connect(mem, line, protocol, flags, rate), channel)
 }
 
 // Disconnects all; the clock runs on.
@@ -62,7 +70,7 @@ pub extern "C" fn trawl_connect(
 pub extern "C" fn trawl_close(mem: &mut [u8]) -> u32
     ensures { gives result 0 [] mem.new ≡ outcome two_rates mem.old close }
 {
-    device::close(mem)
+    codes::code_of(device::close(mem))
 }
 
 // Time goes on, for the clock and every timer.
@@ -70,7 +78,7 @@ pub extern "C" fn trawl_close(mem: &mut [u8]) -> u32
 pub extern "C" fn trawl_advance(mem: &mut [u8], us: u32) -> u32
     ensures { gives result 0 [] mem.new ≡ outcome two_rates mem.old (advance us) }
 {
-    device::advance(mem, us)
+    codes::code_of(device::advance(mem, us))
 }
 
 // A frame from a line, offered to the line's channels.
@@ -78,7 +86,7 @@ pub extern "C" fn trawl_advance(mem: &mut [u8], us: u32) -> u32
 pub extern "C" fn trawl_frame(mem: &mut [u8], line: u32, wide: u32, id: u32, bytes: &[u8]) -> u32
     ensures { gives result 0 [] mem.new ≡ outcome two_rates mem.old (frame line wide id bytes.now) }
 {
-    device::frame(mem, line, wide, id, bytes)
+    codes::code_of(device::frame(mem, line, wide, id, bytes))
 }
 
 // Closes a channel.
@@ -86,7 +94,7 @@ pub extern "C" fn trawl_frame(mem: &mut [u8], line: u32, wide: u32, id: u32, byt
 pub extern "C" fn trawl_disconnect(mem: &mut [u8], channel: u32) -> u32
     ensures { gives result 0 [] mem.new ≡ outcome two_rates mem.old (call channel disconnect) }
 {
-    device::disconnect(mem, channel)
+    codes::code_of(device::disconnect(mem, channel))
 }
 
 // A filter more; its number.
@@ -101,9 +109,10 @@ pub extern "C" fn trawl_start_filter(
 ) -> u32
     ensures { gives result number.new [] mem.new ≡ outcome two_rates mem.old (call channel (start_filter kind mask.now pattern.now)) }
 {
-    let answer = device::start_filter(mem, channel, kind, mask, pattern);
-    *number = answer.value;
-    answer.code
+    crossed(
+        device::start_filter(mem, channel, kind, mask, pattern),
+        number,
+    )
 }
 
 // A filter more, with the record of its flow control; its number.
@@ -119,9 +128,10 @@ pub extern "C" fn trawl_start_flow_filter(
 ) -> u32
     ensures { gives result number.new [] mem.new ≡ outcome two_rates mem.old (call channel (start_flow kind mask.now pattern.now flow.now)) }
 {
-    let answer = device::start_flow_filter(mem, channel, kind, mask, pattern, flow);
-    *number = answer.value;
-    answer.code
+    crossed(
+        device::start_flow_filter(mem, channel, kind, mask, pattern, flow),
+        number,
+    )
 }
 
 // A filter less.
@@ -129,7 +139,7 @@ pub extern "C" fn trawl_start_flow_filter(
 pub extern "C" fn trawl_stop_filter(mem: &mut [u8], channel: u32, number: u32) -> u32
     ensures { gives result 0 [] mem.new ≡ outcome two_rates mem.old (call channel (stop_filter number)) }
 {
-    device::stop_filter(mem, channel, number)
+    codes::code_of(device::stop_filter(mem, channel, number))
 }
 
 // A periodic more; its number.
@@ -143,9 +153,10 @@ pub extern "C" fn trawl_start_periodic(
 ) -> u32
     ensures { gives result number.new [] mem.new ≡ outcome two_rates mem.old (call channel (start_periodic message.now interval)) }
 {
-    let answer = device::start_periodic(mem, channel, message, interval);
-    *number = answer.value;
-    answer.code
+    crossed(
+        device::start_periodic(mem, channel, message, interval),
+        number,
+    )
 }
 
 // A periodic less.
@@ -153,7 +164,7 @@ pub extern "C" fn trawl_start_periodic(
 pub extern "C" fn trawl_stop_periodic(mem: &mut [u8], channel: u32, number: u32) -> u32
     ensures { gives result 0 [] mem.new ≡ outcome two_rates mem.old (call channel (stop_periodic number)) }
 {
-    device::stop_periodic(mem, channel, number)
+    codes::code_of(device::stop_periodic(mem, channel, number))
 }
 
 // Queues records to send; how many.
@@ -167,9 +178,9 @@ pub extern "C" fn trawl_write(
 ) -> u32
     ensures { gives result count.new [] mem.new ≡ outcome two_rates mem.old (call channel (write n buffer.now)) }
 {
-    let answer = device::write(mem, channel, n, buffer);
-    *count = answer.value;
-    answer.code
+    let moved = device::write(mem, channel, n, buffer);
+    *count = moved.count;
+    codes::code_of(moved.end)
 }
 
 // Moves received records to a buffer; how many.
@@ -183,9 +194,9 @@ pub extern "C" fn trawl_read(
 ) -> u32
     ensures { gives result count.new buffer.new mem.new ≡ outcome two_rates mem.old (call channel (read n buffer.old)) }
 {
-    let answer = device::read(mem, channel, n, buffer);
-    *count = answer.value;
-    answer.code
+    let moved = device::read(mem, channel, n, buffer);
+    *count = moved.count;
+    codes::code_of(moved.end)
 }
 
 // The frame to send next, to a buffer; it stays in flight.
@@ -193,7 +204,7 @@ pub extern "C" fn trawl_read(
 pub extern "C" fn trawl_take(mem: &mut [u8], channel: u32, buffer: &mut [u8]) -> u32
     ensures { gives result 0 buffer.new mem.new ≡ outcome two_rates mem.old (call channel (take_next buffer.old)) }
 {
-    device::take(mem, channel, buffer)
+    codes::code_of(device::take(mem, channel, buffer))
 }
 
 // The frame in flight is on the line.
@@ -201,7 +212,7 @@ pub extern "C" fn trawl_take(mem: &mut [u8], channel: u32, buffer: &mut [u8]) ->
 pub extern "C" fn trawl_sent(mem: &mut [u8], channel: u32) -> u32
     ensures { gives result 0 [] mem.new ≡ outcome two_rates mem.old (call channel sent) }
 {
-    device::sent(mem, channel)
+    codes::code_of(device::sent(mem, channel))
 }
 
 // Empties one kind of what a channel holds.
@@ -209,7 +220,7 @@ pub extern "C" fn trawl_sent(mem: &mut [u8], channel: u32) -> u32
 pub extern "C" fn trawl_clear(mem: &mut [u8], channel: u32, kind: u32) -> u32
     ensures { gives result 0 [] mem.new ≡ outcome two_rates mem.old (call channel (clear kind)) }
 {
-    device::clear(mem, channel, kind)
+    codes::code_of(device::clear(mem, channel, kind))
 }
 
 // A parameter's value.
@@ -217,9 +228,7 @@ pub extern "C" fn trawl_clear(mem: &mut [u8], channel: u32, kind: u32) -> u32
 pub extern "C" fn trawl_get(mem: &mut [u8], channel: u32, parameter: u32, value: &mut u32) -> u32
     ensures { gives result value.new [] mem.new ≡ outcome two_rates mem.old (call channel (get_parameter parameter)) }
 {
-    let answer = device::get(mem, channel, parameter);
-    *value = answer.value;
-    answer.code
+    crossed(device::get(mem, channel, parameter), value)
 }
 
 // A parameter's new value.
@@ -227,7 +236,7 @@ pub extern "C" fn trawl_get(mem: &mut [u8], channel: u32, parameter: u32, value:
 pub extern "C" fn trawl_set(mem: &mut [u8], channel: u32, parameter: u32, value: u32) -> u32
     ensures { gives result 0 [] mem.new ≡ outcome two_rates mem.old (call channel (set_parameter parameter value)) }
 {
-    device::set(mem, channel, parameter, value)
+    codes::code_of(device::set(mem, channel, parameter, value))
 }
 
 // Sets a list of parameters, in order, up to the first refused one.
@@ -235,7 +244,7 @@ pub extern "C" fn trawl_set(mem: &mut [u8], channel: u32, parameter: u32, value:
 pub extern "C" fn trawl_set_list(mem: &mut [u8], channel: u32, pairs: &[Pair]) -> u32
     ensures { gives result 0 [] mem.new ≡ outcome two_rates mem.old (call channel (set_list (listed pairs.now))) }
 {
-    device::set_list(mem, channel, pairs)
+    codes::code_of(device::set_list(mem, channel, pairs))
 }
 
 // Gets a list of parameters, in order, each value in its own pair, up to the first refused one.
@@ -243,7 +252,7 @@ pub extern "C" fn trawl_set_list(mem: &mut [u8], channel: u32, pairs: &[Pair]) -
 pub extern "C" fn trawl_get_list(mem: &mut [u8], channel: u32, pairs: &mut [Pair]) -> u32
     ensures { gives result 0 (flat (listed pairs.new)) mem.new ≡ outcome two_rates mem.old (call channel (get_list (listed pairs.old))) }
 {
-    device::get_list(mem, channel, pairs)
+    codes::code_of(device::get_list(mem, channel, pairs))
 }
 
 // What went wrong last on a channel; asking changes nothing.
@@ -251,9 +260,7 @@ pub extern "C" fn trawl_get_list(mem: &mut [u8], channel: u32, pairs: &mut [Pair
 pub extern "C" fn trawl_last_error(mem: &[u8], channel: u32, code: &mut u32) -> u32
     ensures { gives result code.new [] mem.now ≡ outcome two_rates mem.now (call channel last_error) }
 {
-    let answer = device::last_error(mem, channel);
-    *code = answer.value;
-    answer.code
+    crossed(device::last_error(mem, channel), code)
 }
 
 // What becomes of every frame of a width with an identifier: 0 dropped, 1 passes, 2 the data must be seen.
@@ -268,9 +275,8 @@ pub extern "C" fn trawl_decide(
     ensures { gives result answer.new [] mem.new ≡ outcome two_rates mem.old (call channel (decide wide id)) }
 {
     let decided = device::decide(mem, channel, wide, id);
-    let told = decided.decision;
-    *answer = decision::number_of(told);
-    decided.code
+    *answer = decision::told(decided);
+    codes::code_of(decided)
 }
 
 // Saves a raw channel's set-up as a store, over the start of a buffer; its length.
@@ -283,9 +289,7 @@ pub extern "C" fn trawl_save(
 ) -> u32
     ensures { gives result length.new buffer.new mem.new ≡ outcome two_rates mem.old (call channel (save_setup buffer.old)) }
 {
-    let saved = device::save(mem, channel, buffer);
-    *length = saved.value;
-    saved.code
+    crossed(device::save(mem, channel, buffer), length)
 }
 
 // Loads a store onto a raw channel, or changes nothing.
@@ -293,7 +297,7 @@ pub extern "C" fn trawl_save(
 pub extern "C" fn trawl_load(mem: &mut [u8], channel: u32, store: &[u8]) -> u32
     ensures { gives result 0 [] mem.new ≡ outcome two_rates mem.old (call channel (load_setup store.now)) }
 {
-    device::load(mem, channel, store)
+    codes::code_of(device::load(mem, channel, store))
 }
 
 // Asks for a TP2.0 connection on a raw channel's line.
@@ -311,9 +315,7 @@ pub extern "C" fn trawl_link_open(
 ) -> u32
     ensures { gives result 0 [] mem.new ≡ outcome two_rates mem.old (call channel (link_open (asked_of own destination rx application size t1 t3))) }
 {
-    device::link_open(
-        mem,
-        channel,
+    let asking = Asking {
         own,
         destination,
         rx,
@@ -321,7 +323,8 @@ pub extern "C" fn trawl_link_open(
         size,
         t1,
         t3,
-    )
+    };
+    codes::code_of(device::link_open(mem, channel, asking))
 }
 
 // A message to the partner of a connection.
@@ -329,7 +332,7 @@ pub extern "C" fn trawl_link_open(
 pub extern "C" fn trawl_link_send(mem: &mut [u8], channel: u32, message: &[u8]) -> u32
     ensures { gives result 0 [] mem.new ≡ outcome two_rates mem.old (call channel (link_send message.now)) }
 {
-    device::link_send(mem, channel, message)
+    codes::code_of(device::link_send(mem, channel, message))
 }
 
 // The complete message that a connection received, to a buffer; its length.
@@ -342,9 +345,7 @@ pub extern "C" fn trawl_link_receive(
 ) -> u32
     ensures { gives result length.new buffer.new mem.new ≡ outcome two_rates mem.old (call channel (link_receive buffer.old)) }
 {
-    let received = device::link_receive(mem, channel, buffer);
-    *length = received.value;
-    received.code
+    crossed(device::link_receive(mem, channel, buffer), length)
 }
 
 // Ends a connection.
@@ -352,7 +353,7 @@ pub extern "C" fn trawl_link_receive(
 pub extern "C" fn trawl_link_end(mem: &mut [u8], channel: u32) -> u32
     ensures { gives result 0 [] mem.new ≡ outcome two_rates mem.old (call channel link_end) }
 {
-    device::link_end(mem, channel)
+    codes::code_of(device::link_end(mem, channel))
 }
 
 // The record of the telegram that `bytes` are, over the start of a buffer: an opening one where `opening` is not 0, else one on a channel.
@@ -365,7 +366,7 @@ pub extern "C" fn trawl_read_telegram(
 ) -> u32
     ensures { gave result 0 telegram.new ≡ reading (read_any (not (eqb opening 0)) identifier bytes.now) telegram.old }
 {
-    packing::read(opening != 0, identifier, bytes, telegram)
+    codes::code_of(packing::read(opening != 0, identifier, bytes, telegram))
 }
 
 // The bytes of the telegram that a record says, over the start of a buffer; how many.
@@ -373,9 +374,7 @@ pub extern "C" fn trawl_read_telegram(
 pub extern "C" fn trawl_write_telegram(telegram: &[u8], buffer: &mut [u8], length: &mut u32) -> u32
     ensures { gave result length.new buffer.new ≡ writing telegram.now buffer.old }
 {
-    let answer = packing::write(telegram, buffer);
-    *length = answer.value;
-    answer.code
+    crossed(packing::write(telegram, buffer), length)
 }
 
 // A time byte in units of 0.1 ms. T1 = 0xFF means no time-out: its entry, 63,000, is for whoever uses T1 to pass over.
@@ -397,8 +396,15 @@ pub extern "C" fn trawl_replay(
 ) -> u32
     ensures { leaves result at.new length.new mem.new out.new ≡ pieced mem.old recording.now at.old out.old }
 {
-    let played = recording::play_on(mem, recording, *at, out);
-    *at = played.at;
-    *length = played.length;
-    played.code
+    match recording::play_on(mem, recording, *at, out) {
+        Ok(played) => {
+            *at = played.at;
+            *length = played.length;
+            codes::STATUS_NOERROR
+        }
+        Err(refusal) => {
+            *length = 0;
+            u32::from(refusal)
+        }
+    }
 }

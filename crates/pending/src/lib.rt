@@ -12,14 +12,12 @@ pub fn first_pending(part: &[u8]) -> usize
     requires { PeriodicPart part.now }
     ensures { (flags : ℕ) → result ≡ first_pending ((periodics flags).get part.now) }
 {
-    let mut i = 0;
-    while i < places::PLACES {
+    for i in 0..places::PLACES {
         if part[places::PENDING_IN + i] == 1 {
             return i;
         }
-        i += 1;
     }
-    i
+    places::PLACES
 }
 
 // The periodic of a place is no longer pending.

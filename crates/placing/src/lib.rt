@@ -16,14 +16,12 @@ pub fn first_free(part: &[u8]) -> usize
     requires { PeriodicPart part.now }
     ensures { (flags : ℕ) → result ≡ free ((periodics flags).get part.now) }
 {
-    let mut i = 0;
-    while i < places::PLACES {
+    for i in 0..places::PLACES {
         if integers::word_at(part, i * places::NUMBER) == 0 {
             return i;
         }
-        i += 1;
     }
-    i
+    places::PLACES
 }
 
 // The timer of a place: its interval, no time passed, and its pending mark.

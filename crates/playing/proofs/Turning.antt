@@ -1,4 +1,5 @@
 -- What the reader's answer says of the event, and how one turn of a replay is said. Assumes nothing.
+use Rattle.std.specs.Prelude.{Some, None}
 use Prim.Native.Nat.{ℕ, ◌-◌}
 use mathlib.Core.Path.{◌≡◌, refl, sym, ap, ◌∙◌, subst}
 use mathlib.Core.Option.{Option, none, some}
@@ -20,10 +21,8 @@ use Rattle.events.specs.declared.Giving.{Giving}
 use Rattle.events.specs.declared.Giving.TheVariants as giving
 use Rattle.events.specs.declared.Event.{Event}
 use Rattle.events.specs.declared.Event.TheVariants as event
-use Rattle.events.specs.declared.Found.{Found}
-use Rattle.events.specs.declared.Found.TheVariants as found
 use Rattle.events.specs.Events.{read_event}
-use Rattle.events.specs.Found.{between, plain_of, giving_of, event_of, found_of, EventThere, FoundThere, ReadsEvent}
+use Rattle.events.specs.Found.{between, plain_of, giving_of, event_of, found_of, EventThere, Found, FoundThere, ReadsEvent}
 use Rattle.playing.specs.Step.{Answered, TurnedAs, TurnedBy, Turned}
 
 -- the rates of either edition are out of the three
@@ -68,10 +67,10 @@ module _ (s : List ℕ) (t : T (all is_byte s)) where
 -- ---- what the reader's answer says
 
 module _ (s : List ℕ) (at : ℕ) (r : Found) (a : ReadsEvent s at r) where
-  pub read_bad : r ≡ found.Bad → read_event s at ≡ none
+  pub read_bad : r ≡ None → read_event s at ≡ none
   read_bad q = sym a.is ∙ ap (λ (x : Found). found_of s x) q
 
-  module _ {e : Event} {next : ℕ} (q : r ≡ found.Good e next) where
+  module _ {e : Event} {next : ℕ} (q : r ≡ Some (e, next)) where
     pub read_good : read_event s at ≡ some (event_of s e, next)
     read_good = sym a.is ∙ ap (λ (x : Found). found_of s x) q
 

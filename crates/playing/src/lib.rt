@@ -13,7 +13,7 @@ ghost use Rattle.events.specs.Found.{event_of, EventThere};
 ghost use Rattle.edition.specs.Edition.{rates_of};
 ghost use Rattle.playing.specs.Step.{Answered, TurnedAs, Turned};
 
-use events::{Event, Found};
+use events::Event;
 
 // Plays a read: the records go straight to their place in the output, and the code and the count stand in front of them.
 fn read_into(mem: &mut [u8], out: &mut [u8], at: usize, channel: u32, n: u32) -> usize
@@ -23,10 +23,10 @@ fn read_into(mem: &mut [u8], out: &mut [u8], at: usize, channel: u32, n: u32) ->
     let unit = recording_sizes::record_on(channel);
     let from = at + 2;
     let end = from + unit * (n as usize);
-    let a = box_traffic::read(mem, channel, n, &mut out[from..end]);
-    out[at + 1] = a.value as u8;
-    out[at] = a.code as u8;
-    from + unit * (a.value as usize)
+    let moved = box_traffic::read(mem, channel, n, &mut out[from..end]);
+    out[at + 1] = moved.count as u8;
+    out[at] = codes::code_of(moved.end) as u8;
+    from + unit * (moved.count as usize)
 }
 
 // Plays a take: the record goes straight to its place in the output, and the code stands in front of it.
@@ -36,12 +36,12 @@ fn take_into(mem: &mut [u8], out: &mut [u8], at: usize, channel: u32) -> usize
 {
     let from = at + 1;
     let end = from + recording_sizes::record_on(channel);
-    let code = box_traffic::take(mem, channel, &mut out[from..end]);
-    out[at] = code as u8;
-    if code != codes::STATUS_NOERROR {
-        return from;
+    let answer = box_traffic::take(mem, channel, &mut out[from..end]);
+    out[at] = codes::code_of(answer) as u8;
+    match answer {
+        Ok(_) => end,
+        Err(_) => from,
     }
-    end
 }
 
 // Plays an event and writes its answer from a place on; gives the place after it.
@@ -58,12 +58,12 @@ fn play(
 {
     match e {
         Event::Code(p) => {
-            let code = event_calls::plain_code(mem, rates, recording, p);
-            answers::put_number(out, at, code)
+            let answer = event_calls::plain_code(mem, rates, recording, p);
+            answers::put_number(out, at, codes::code_of(answer))
         }
         Event::Number(g) => {
-            let a = event_calls::giving_answer(mem, rates, recording, g);
-            answers::put_done(out, at, a.code, a.value)
+            let answer = event_calls::giving_answer(mem, rates, recording, g);
+            answers::put_done(out, at, answer)
         }
         Event::Write {
             channel,
@@ -71,8 +71,8 @@ fn play(
             from,
             end,
         } => {
-            let a = box_traffic::write(mem, channel, n, &recording[from..end]);
-            answers::put_count(out, at, a.code, a.value)
+            let moved = box_traffic::write(mem, channel, n, &recording[from..end]);
+            answers::put_count(out, at, moved)
         }
         Event::Read(channel, n) => read_into(mem, out, at, channel, n),
         Event::Take(channel) => take_into(mem, out, at, channel),
@@ -110,7 +110,7 @@ fn play_event(mem: &mut [u8], recording: &[u8], at: usize, out: &mut [u8], place
     requires { T (valid mem.old) × (place + event_room ≤ length out.old) }
     ensures { TurnedAs (rates_of recording.now) (read_event recording.now at) recording.now mem.old out.old place result.next result.place mem.new out.new }
 {
-    let Found::Good(e, next) = event_reader::read_event(recording, at) else {
+    let Some((e, next)) = event_reader::read_event(recording, at) else {
         let after = answers::put_number(out, place, recording_sizes::BAD_EVENT);
         return Turn {
             next: recording.len(),

@@ -1,2 +1,3 @@
 -- What the contracts of this crate cite. Assumes nothing.
 pub mod Reader
+pub mod Cursor

@@ -1,11 +1,10 @@
 -- Reading, on the region of an open channel: the machine's answers. Assumes nothing.
 use mathlib.Core.Path.{◌≡◌, refl, sym, ap, ◌∙◌}
-use Prim.Native.Nat.{ℕ, ◌+◌, ◌*◌, ◌-◌, ◌≤◌, ◌<◌, min}
+use Prim.Native.Nat.{ℕ, ◌*◌, ◌≤◌, ◌<◌, min}
 use native.Mathlib.Omega.{arith}
 use mathlib.Core.Bool.{Bool, false}
 use mathlib.Core.List.{List, ◌++◌}
-use lib.ListN.{length, get_or, take, drop}
-use lib.Dec.{eqb}
+use lib.ListN.{length, take, drop}
 use borrow.Rule.Slice.PartMut.{put_mid}
 use borrow.Author.Tests.{eq-eqb, ne_eqb, lt-ltb, le-ltb}
 use Rattle.machine.specs.Codes.{code_of}
@@ -18,28 +17,8 @@ use Rattle.layout.specs.Promise.{Opened, gives, call_outcome}
 use Rattle.layout.proofs.Region.{open_of, moves, stays}
 use Rattle.queue.specs.Queue.{without_oldest}
 use Rattle.queue.proofs.Bytes.{oldest_out}
-use Rattle.queue.proofs.Laws.{part, fine, held, lost, without}
-
--- ---- the code, test by test
-
-module _ (lost n m : ℕ) where
-  pub reported : 1 ≡ lost → 0x12 ≡ read_code (eqb 1 lost) n m
-  unfolding read_code
-  reported l = rw (eq-eqb 1 lost l)
-
-  pub full : (1 ≡ lost → ⊥) → m ≡ n → 0x00 ≡ read_code (eqb 1 lost) n m
-  unfolding read_code
-  full l e = rw (ne_eqb 1 lost l) (rw (eq-eqb m n e))
-
-  pub empty : (1 ≡ lost → ⊥) → (m ≡ n → ⊥) → m ≡ 0 → 0x10 ≡ read_code (eqb 1 lost) n m
-  unfolding read_code
-  empty l e z = rw (ne_eqb 1 lost l) (rw (ne_eqb m n e) (rw (eq-eqb m 0 z)))
-
-  pub between : (1 ≡ lost → ⊥) → (m ≡ n → ⊥) → (m ≡ 0 → ⊥) → 0x09 ≡ read_code (eqb 1 lost) n m
-  unfolding read_code
-  between l e z = rw (ne_eqb 1 lost l) (rw (ne_eqb m n e) (rw (ne_eqb m 0 z)))
-
-pub ruleset answers = (reported, full, empty, between)
+use Rattle.queue.proofs.Laws.{part, part_lent, fine, held, lost, without}
+use Rattle.reading.specs.Given.{Held, Given}
 
 -- ---- on the region of an open channel
 
@@ -56,6 +35,9 @@ module _ (r : List ℕ) (f : Opened r) where
   abbrev xs : List Rec
   xs = o.receiving.queue
 
+  pub held_part : Held record_size queue_size (take receiving_size (drop receiving_at r))
+  held_part = let l = part_lent r f 0 (omega arith) in record { whole = omega (arith, l); marked = omega (arith, l) }
+
   module _ (rates : List ℕ) (now n : ℕ) (b : List ℕ) where
     pub read_short : length b < record_size * n → gives 0x04 0 b r ≡ call_outcome rates now r (read n b)
     unfolding on_open on_read unless code_of shorter
@@ -65,16 +47,15 @@ module _ (r : List ℕ) (f : Opened r) where
     unfolding on_open on_read unless code_of shorter
     read_none s z = stays r f rates now (read n b) 0x00 0 b (rw (le-ltb (length b) (record_size * n) s) (rw (eq-eqb n 0 z) refl))
 
-    pub read_some : record_size * n ≤ length b → (n ≡ 0 → ⊥) → (m code : ℕ) (bs ys : List ℕ) → m ≡ min n (get_or q 0 0) → code ≡ read_code (eqb 1 (get_or q queue_size 0)) n m → bs ≡ take (1 + m * record_size - 1) (drop 1 q)
-        → ys ≡ (receiving_part fl).put (without_oldest m ((receiving_part fl).get q)) → gives code m (bs ++ drop (m * record_size - 0) b) (put_mid receiving_at receiving_size r ys) ≡ call_outcome rates now r (read n b)
+    pub read_some : record_size * n ≤ length b → (n ≡ 0 → ⊥) → {m code : ℕ} {bs ys : List ℕ} → Given record_size queue_size n q b m code bs
+        → ys ≡ (receiving_part fl).put (without_oldest m ((receiving_part fl).get q)) → gives code m bs (put_mid receiving_at receiving_size r ys) ≡ call_outcome rates now r (read n b)
     unfolding on_open on_read unless code_of shorter reading
-    read_some s z m code bs ys em ec eb ey =
-        let m' : m ≡ min n (length xs) = em ∙ ap (min n) (held r f) in
-        let c' : code ≡ read_code o.receiving.lost n m = ec ∙ ap (λ (l : Bool). read_code l n m) (lost r f) in
-        let j' : 1 + m * record_size - 1 ≡ m * record_size = omega arith in
-        let k' : m * record_size - 0 ≡ record_size * m = omega arith in
-        let given : bs ≡ shown_all (take m xs) =
-        eb ∙ ap (λ (j : ℕ). take j (drop 1 q)) j' ∙ oldest_out fl o.receiving (part r f).is (fine r f) m (omega arith) in
-        (λ i. gives (c' i) m (given i ++ drop (k' i) b) (put_mid receiving_at receiving_size r ys))
+    read_some s z {m} {code} {bs} {ys} d ey =
+        let m' : m ≡ min n (length xs) = d.count_is ∙ ap (min n) (held r f) in
+        let c' : code ≡ read_code o.receiving.lost n m = d.code_is ∙ ap (λ (l : Bool). read_code l n m) (lost r f) in
+        let k' : m * record_size ≡ record_size * m = omega arith in
+        let out : take (m * record_size) (drop 1 q) ≡ shown_all (take m xs) = oldest_out fl o.receiving (part r f).is (fine r f) m (omega arith) in
+        let given : bs ≡ shown_all (take m xs) ++ drop (record_size * m) b = d.buffer_is ∙ (λ i. out i ++ drop (k' i) b) in
+        (λ i. gives (c' i) m (given i) (put_mid receiving_at receiving_size r ys))
         ∙ moves r f rates now (read n b) (with_receiving o (drop m xs) false) (read_code o.receiving.lost n m) m (shown_all (take m xs) ++ drop (record_size * m) b) (put_mid receiving_at receiving_size r ys)
         (rw (le-ltb (length b) (record_size * n) s) (rw (ne_eqb n 0 z) (rw (sym m') refl))) (without r f m ys ey)

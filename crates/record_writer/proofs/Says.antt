@@ -11,17 +11,18 @@ use borrow.Author.Tests.{leb-true, eqb-true, le-ltb}
 use Rattle.telegram.specs.Bits.{only_if}
 use Rattle.telegram.specs.Telegram.{AnyTelegram, opening, channel, set_up, positive, negative, data_telegram, acknowledge, connection, test, break_off, disconnection, is_opening_id, is_destination, is_negative, any_fits, opening_fits, fields_fit, fits, any_bytes, opening_bytes, on_wire}
 use Rattle.telegram.proofs.Tests.{both, tested}
-use Rattle.telegram_types.specs.declared.Taken.{Taken}
-use Rattle.telegram_types.specs.declared.Taken.TheVariants.{Yes, No}
+use Rattle.std.specs.Prelude.{Result}
+use Rattle.std.specs.Prelude as rust
+use Rattle.codes.specs.declared.Refusal.{Refusal}
+use Rattle.codes.specs.Code.{code_of, value_of}
 use Rattle.telegram_types.specs.declared.Telegram.{Telegram}
-use Rattle.telegram_types.specs.declared.Written.{Written}
 use Rattle.telegram_types.specs.Face.{Wrote, wrote, said, taken_said, written_if, refusal, done}
 use Rattle.telegram_types.specs.Face.{writing as tells}
 use Rattle.telegram_record.specs.Record.{kept, count_in, carried_in, telegram_in}
 use Rattle.telegram_record.specs.Crossing.{unpacked, writing, gave}
 
 -- no telegram is said
-pub unsaid : (k : Taken) (r : List ℕ) → kept (taken_said k (carried_in r)) ≡ telegram_in r → k ≡ No → telegram_in r ≡ none
+pub unsaid : (k : rust.Option Telegram) (r : List ℕ) → kept (taken_said k (carried_in r)) ≡ telegram_in r → k ≡ rust.None → telegram_in r ≡ none
 unfolding taken_said kept
 unsaid k r e is = sym e ∙ ap (λ x. kept (taken_said x (carried_in r))) is
 
@@ -30,9 +31,9 @@ written_kept : (t : AnyTelegram) (buffer : List ℕ) → written_if (any_fits t)
 unfolding kept unpacked written_if only_if
 written_kept t buffer = tested (any_fits t) (λ fit. rw fit) (λ bad. rw bad)
 
-pub said_written : (k : Taken) (t : Telegram) (r part buffer after : List ℕ) (w : Written) → part ≡ carried_in r → kept (taken_said k (carried_in r)) ≡ telegram_in r → k ≡ Yes t
+pub said_written : (k : rust.Option Telegram) (t : Telegram) (r part buffer after : List ℕ) (w : Result ℕ Refusal) → part ≡ carried_in r → kept (taken_said k (carried_in r)) ≡ telegram_in r → k ≡ rust.Some t
     → 32 ≤ length r → 8 ≤ length buffer → wrote w after ≡ tells (said t part) buffer
-    → gave w.code w.len after ≡ writing r buffer
+    → gave (code_of w) (value_of w) after ≡ writing r buffer
 unfolding taken_said wrote tells writing
 said_written k t r part buffer after w p e is long room h =
     let says : kept (some (said t (carried_in r))) ≡ telegram_in r = sym (ap (λ x. kept (taken_said x (carried_in r))) is) ∙ e in
@@ -61,11 +62,11 @@ fits_short (channel test) h = omega arith
 fits_short (channel break_off) h = omega arith
 fits_short (channel disconnection) h = omega arith
 
-pub short_write : (t : AnyTelegram) (w : Written) (before after : List ℕ) → wrote w after ≡ tells t before → w.len ≤ 8
+pub short_write : (t : AnyTelegram) (w : Result ℕ Refusal) (before after : List ℕ) → wrote w after ≡ tells t before → value_of w ≤ 8
 unfolding wrote tells written_if refusal done
 short_write t w before after e =
     tested (ltb (length before) 8)
-    (λ short. let z : w.len ≡ 0 = ap (λ (y : Wrote). y.len) (rw short at e) in omega arith)
+    (λ short. let z : value_of w ≡ 0 = ap (λ (y : Wrote). y.len) (rw short at e) in omega arith)
     (λ room. tested (any_fits t)
-    (λ fit. let z : w.len ≡ length (any_bytes t) = ap (λ (y : Wrote). y.len) (rw (room, fit) at e) in let h = fits_short t fit in omega arith)
-    (λ bad. let z : w.len ≡ 0 = ap (λ (y : Wrote). y.len) (rw (room, bad) at e) in omega arith))
+    (λ fit. let z : value_of w ≡ length (any_bytes t) = ap (λ (y : Wrote). y.len) (rw (room, fit) at e) in let h = fits_short t fit in omega arith)
+    (λ bad. let z : value_of w ≡ 0 = ap (λ (y : Wrote). y.len) (rw (room, bad) at e) in omega arith))

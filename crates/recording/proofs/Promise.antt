@@ -13,12 +13,19 @@ use Rattle.edition.specs.Edition.{rates_of}
 use Rattle.number.specs.Number.{bytes_of, groups}
 use Rattle.number.specs.Place.{Written}
 use Rattle.recording_sizes.specs.Sizes.{longest, event_room}
-use Rattle.recording.specs.Replay.{bad_event, Piece, piece, goes_on, event_at, piece_of, Left, leaves, written, pieced}
+use Rattle.std.specs.Prelude.{Result, Ok, Err}
+use Rattle.codes.specs.Code.{number_of}
+use Rattle.codes.specs.declared.Refusal.{Refusal}
 use Rattle.recording.specs.declared.Played.{Played}
+use Rattle.recording.specs.Replay.{bad_event, Piece, piece, goes_on, event_at, piece_of, Left, leaves, told, written, pieced}
 
--- what `stays` gives is a code, the place, and no bytes
-pub stayed : (r : Played) (k at : ℕ) (m out : List ℕ) {x : Left} → (r.code ≡ k) × (r.at ≡ at) × (r.length ≡ 0) → leaves k at 0 m out ≡ x → leaves r.code r.at r.length m out ≡ x
-stayed r k at m out e p = rw (e.0, e.1, e.2) p
+-- what an answer says, where a caller knows which it is
+module _ (at : ℕ) {r : Result Played Refusal} {m b : List ℕ} {x : Left} (e : told at r m b ≡ x) where
+  pub told_ok : {played : Played} → r ≡ Ok played → leaves 0x00 played.at played.length m b ≡ x
+  told_ok q = ap (λ (a : Result Played Refusal). told at a m b) (sym q) ∙ e
+
+  pub told_err : {refusal : Refusal} → r ≡ Err refusal → leaves (number_of refusal) at 0 m b ≡ x
+  told_err q = ap (λ (a : Result Played Refusal). told at a m b) (sym q) ∙ e
 
 module _ (m s : List ℕ) (at : ℕ) (out : List ℕ) where
   -- no device memory

@@ -3,6 +3,9 @@
 -- Assumes nothing.
 use Rattle.std.specs.Prelude.{ℕ, zero, suc, ◌-◌, not, ◌||◌, List, [], ◌++◌, leb, ltb, length, drop, if◌then◌else◌}
 use Rattle.std.proofs.Math.Option.{Option, none, some}
+use Rattle.std.specs.Prelude.{Result, Ok, Err}
+use Rattle.codes.specs.declared.Refusal.{Refusal}
+use Rattle.codes.specs.Code.{number_of}
 use Rattle.recording_sizes.specs.Sizes.{longest, event_room, bad_number}
 use Rattle.number.specs.Number.{bytes_of}
 use Rattle.machine.specs.Step.{Event}
@@ -11,6 +14,7 @@ use Rattle.memory.specs.Memory.{image, load, valid}
 use Rattle.edition.specs.Edition.{mark_size, rates_of, start_of, mark_at}
 use Rattle.events.specs.Events.{read_event}
 use Rattle.answers.specs.Output.{answer_bytes}
+use Rattle.recording.specs.declared.Played.{Played}
 
 -- a bad event writes the number 255
 unfoldable pub bad_event : List ℕ
@@ -87,6 +91,11 @@ pub record Left : Type 0 where
 
 abbrev pub leaves : ℕ → ℕ → ℕ → List ℕ → List ℕ → Left
 leaves c i n m b = record { code = c; at = i; size = n; memory = m; buffer = b }
+
+-- what an answer leaves: a piece's place and length, or the refusal's code, and the place stays and nothing is written
+abbrev pub told : ℕ → Result Played Refusal → List ℕ → List ℕ → Left
+told at (Ok played) m b = leaves 0x00 played.at played.length m b
+told at (Err refusal) m b = leaves (number_of refusal) at 0 m b
 
 -- what a piece writes stands at the buffer's start, and the bytes behind it stay
 unfoldable pub written : Piece → List ℕ → Left

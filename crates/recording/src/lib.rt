@@ -5,15 +5,15 @@ ghost use Rattle.std.specs.Prelude.{◌≡◌, ◌+◌, ◌≤◌, T, length};
 ghost use Rattle.recording_sizes.specs.Sizes.{event_room};
 ghost use Rattle.memory.specs.Memory.{valid, load};
 ghost use Rattle.edition.specs.Edition.{rates_of};
-ghost use Rattle.recording.specs.Replay.{goes_on, event_at, leaves, written, pieced};
+ghost use Rattle.recording.specs.Replay.{goes_on, event_at, leaves, told, written, pieced};
 
+use codes::Refusal;
 use playing::Turn;
 use reader::Reader;
 
-// The code of a piece, the place in the recording at which it left off, and how many bytes of the output it wrote.
+// Where in the recording a piece left off, and how many bytes of the output it wrote.
 #[derive(Drop)]
 pub struct Played {
-    pub code: u32,
     pub at: usize,
     pub length: usize,
 }
@@ -26,6 +26,7 @@ fn play_events(mem: &mut [u8], recording: &[u8], at: usize, out: &mut [u8], last
 {
     let mut reader = Reader::new(recording, at);
     let mut place = 0;
+    // each turn says where the next begins, which no `for` counts
     while !reader.at_end() & (place <= last) {
         let turn = playing::play_at(mem, recording, reader.at, out, place);
         place = turn.place;
@@ -37,45 +38,37 @@ fn play_events(mem: &mut [u8], recording: &[u8], at: usize, out: &mut [u8], last
     }
 }
 
-// Nothing is played: a code, and the place stays.
-fn stays(code: u32, at: usize) -> Played
-    ensures { (result.code ≡ code) × (result.at ≡ at) × (result.length ≡ 0) }
-{
-    Played {
-        code,
-        at,
-        length: 0,
-    }
-}
-
 // Plays a piece of a recording from a place on, on a lent memory and into a lent buffer: 0x1A for what is no device memory, 0x04 where the buffer
 // has no room for one event, and nothing changes; else 0x00, where it left off, and how many bytes it wrote. A bad event, or a recording of more than
 // 32,768 bytes, ends at the recording's end. The device's memory and the place are all that the next piece needs.
-pub fn play_on(mem: &mut [u8], recording: &[u8], at: usize, out: &mut [u8]) -> Played
-    ensures { leaves result.code result.at result.length mem.new out.new ≡ pieced mem.old recording.now at out.old }
+pub fn play_on(
+    mem: &mut [u8],
+    recording: &[u8],
+    at: usize,
+    out: &mut [u8],
+) -> Result<Played, Refusal>
+    ensures { told at result mem.new out.new ≡ pieced mem.old recording.now at out.old }
 {
     if !box_validity::valid(mem) {
-        return stays(codes::ERR_INVALID_DEVICE_ID, at);
+        return Err(Refusal::InvalidDeviceId);
     }
     if out.len() < recording_sizes::EVENT_ROOM {
-        return stays(codes::ERR_NULL_PARAMETER, at);
+        return Err(Refusal::NullParameter);
     }
     if at >= recording.len() {
-        return stays(codes::STATUS_NOERROR, at);
+        return Ok(Played { at, length: 0 });
     }
     if recording.len() > recording_sizes::LONGEST {
         let length = answers::put_number(out, 0, recording_sizes::BAD_EVENT);
-        return Played {
-            code: codes::STATUS_NOERROR,
+        return Ok(Played {
             at: recording.len(),
             length,
-        };
+        });
     }
     let last = out.len() - recording_sizes::EVENT_ROOM;
     let end = play_events(mem, recording, at, out, last);
-    Played {
-        code: codes::STATUS_NOERROR,
+    Ok(Played {
         at: end.next,
         length: end.place,
-    }
+    })
 }

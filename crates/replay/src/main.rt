@@ -16,8 +16,12 @@ fn play(to: &impl Print, mem: &mut [u8], recording: &[u8], out: &mut [u8]) -> io
     requires { T (valid mem.old) × (event_room ≤ length out.old) }
 {
     let mut at = 0;
+    // each piece says where the next begins, which no `for` counts
     while at < recording.len() {
-        let played = recording::play_on(mem, recording, at, out);
+        // the memory is valid and there is room: nothing is refused
+        let Ok(played) = recording::play_on(mem, recording, at, out) else {
+            return Ok(());
+        };
         to.write_all(input::first(out, played.length))?;
         at = played.at;
     }

@@ -36,7 +36,7 @@ fn write_lines(out: &impl Print, numbers: &[u32]) -> io::Result<()>
 fn numbers_of(recording: &[u8]) -> [u32; shift_places::REPORT] {
     let mut mem = [0u8; box_places::BOX];
     let mut numbers = [0u32; shift_places::REPORT];
-    shift_report::report(&mut mem, recording, &mut numbers);
+    let _ = shift_report::report(&mut mem, recording, &mut numbers);
     numbers
 }
 

@@ -2,6 +2,7 @@
 #![tactic(auto)]
 
 ghost use Rattle.std.specs.Prelude.{◌≡◌, List, ℕ, ◌+◌, ◌≤◌, ◌<◌, length};
+ghost use Rattle.codes.specs.Code.{code_of, value_of};
 ghost use Rattle.machine.specs.Limits.{most_places, most_data, record_size};
 ghost use Rattle.machine.specs.Message.{shown};
 ghost use Rattle.machine.specs.Store.{slots_bytes, filter_bytes, periodic_bytes};
@@ -14,7 +15,7 @@ ghost use Rattle.answers.specs.Put.{Put};
 ghost use Rattle.store_sizes.specs.Entries.{filters_of, periodics_of, store_of};
 ghost use Rattle.saving.specs.Entry.{entry_at};
 
-use codes::Answer;
+use codes::Refusal;
 use places::{
     DATA_IN, MASKS_IN, MESSAGES_IN, NUMBER, PATTERNS_IN, PLACES, RECORD, ROW, SIZES_IN, WIDTHS_IN,
 };
@@ -64,10 +65,8 @@ fn put_filters(out: &mut [u8], at: usize, part: &[u8]) -> usize
 {
     let count = store_sizes::filter_count(part);
     let mut next = answers::put_number(out, at, count);
-    let mut i = 0;
-    while i < PLACES {
+    for i in 0..PLACES {
         next = put_filter(out, next, part, i);
-        i += 1;
     }
     next
 }
@@ -96,10 +95,8 @@ fn put_periodics(out: &mut [u8], at: usize, part: &[u8]) -> usize
 {
     let count = store_sizes::periodic_count(part);
     let mut next = answers::put_number(out, at, count);
-    let mut i = 0;
-    while i < PLACES {
+    for i in 0..PLACES {
         next = put_periodic(out, next, part, i);
-        i += 1;
     }
     next
 }
@@ -118,19 +115,13 @@ fn put_store(out: &mut [u8], r: &[u8]) -> usize
 }
 
 // Save: the store of an open channel into a buffer, and its length; 0x04 where it doesn't fit.
-pub fn save_in(r: &[u8], buffer: &mut [u8]) -> Answer
+pub fn save_in(r: &[u8], buffer: &mut [u8]) -> Result<u32, Refusal>
     requires { Opened r.now }
-    ensures { (rates : List ℕ) (t : ℕ) → gives result.code result.value buffer.new r.now ≡ call_outcome rates t r.now (save_setup buffer.old) }
+    ensures { (rates : List ℕ) (t : ℕ) → gives (code_of result) (value_of result) buffer.new r.now ≡ call_outcome rates t r.now (save_setup buffer.old) }
 {
     if buffer.len() < store_sizes::store_size(r) {
-        return Answer {
-            code: codes::ERR_NULL_PARAMETER,
-            value: 0,
-        };
+        return Err(Refusal::NullParameter);
     }
     let size = put_store(buffer, r);
-    Answer {
-        code: codes::STATUS_NOERROR,
-        value: size as u32,
-    }
+    Ok(size as u32)
 }

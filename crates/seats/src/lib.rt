@@ -8,8 +8,8 @@ ghost use Rattle.machine.specs.Channel.{listens as listens_by};
 ghost use Rattle.layout.specs.Sizes.{region_size, flags_at};
 ghost use Rattle.whole.specs.Device.{channels};
 ghost use Rattle.memory.specs.Memory.{valid};
-ghost use Rattle.memory.specs.Promise.{Placed, RawPlaced};
 ghost use Rattle.memory.specs.Runs.{place_at};
+ghost use Rattle.seats.specs.Seated.{Seated, RawSeated};
 
 use places::LINES;
 
@@ -24,35 +24,44 @@ fn begins(number: usize) -> usize
     places::REGIONS + (number - 1) * places::REGION
 }
 
-// Where the region of an open channel begins: 0 where no channel of that number is open. Its place tells the kind of channel.
-pub fn region_of(mem: &[u8], channel: u32) -> usize
+// Where the region of an open channel begins, by the kind of channel.
+#[derive(Clone, Copy)]
+pub enum Seat {
+    Raw(usize),
+    Iso(usize),
+}
+
+// The seat of the channel of a number; none where no channel of that number is open.
+pub fn seat_of(mem: &[u8], channel: u32) -> Option<Seat>
     requires { T (valid mem.now) }
-    ensures { Placed mem.now channel result }
+    ensures { Seated mem.now channel result }
 {
     let number = channel as usize;
     if number < 1 {
-        return 0;
+        return None;
     }
     if number > box_places::CHANNELS {
-        return 0;
+        return None;
     }
     let base = begins(number);
     if mem[base] == 0 {
-        return 0;
+        return None;
     }
-    base
+    if base < box_places::ISO_REGIONS {
+        return Some(Seat::Raw(base));
+    }
+    Some(Seat::Iso(base))
 }
 
-// The same for a call that takes the number of a raw channel: 0 where no raw channel of that number is open.
-pub fn raw_region_of(mem: &[u8], channel: u32) -> usize
+// The same for a call that takes the number of a raw channel: none where no raw channel of that number is open.
+pub fn raw_seat_of(mem: &[u8], channel: u32) -> Option<usize>
     requires { T (valid mem.now) }
-    ensures { RawPlaced mem.now channel result }
+    ensures { RawSeated mem.now channel result }
 {
-    let base = region_of(mem, channel);
-    if base < box_places::ISO_REGIONS {
-        return base;
+    match seat_of(mem, channel)? {
+        Seat::Raw(at) => Some(at),
+        Seat::Iso(_) => None,
     }
-    0
 }
 
 // Is the raw channel whose region begins at a place a listener? What would speak out is refused there.

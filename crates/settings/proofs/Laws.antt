@@ -1,83 +1,59 @@
 -- What configuring and clearing do to the bytes of a region is what the machine does to the channel. Assumes nothing.
-use Rattle.std.specs.Prelude.{if◌then◌else◌}
 use mathlib.Core.Path.{◌≡◌, refl, sym, ap, ap₂, ◌∙◌}
-use Prim.Native.Nat.{ℕ, zero, suc, ◌≤◌, ◌<◌}
-use native.Mathlib.Omega.{arith}
-use mathlib.Core.Bool.{Bool, true, false}
+use Prim.Native.Nat.{ℕ}
+use mathlib.Core.Bool.{false}
 use mathlib.Core.List.{List, [], ◌++◌}
-use lib.ListN.{length, get_or, set, take, drop}
-use lib.Dec.{eqb}
-use borrow.Author.Tests.{eq-eqb, ne_eqb}
+use lib.ListN.{length, take, drop}
+use lib.Dec.{T}
+use borrow.Author.Tests.{ne_eqb}
 use borrow.Rule.Slice.PartMut.{put_mid}
-use Rattle.codec.specs.Plain.{member, zeros}
+use Rattle.codec.specs.Plain.{zeros}
 use Rattle.codec.specs.Word.{word}
-use Rattle.codec.specs.Code.{Code, byte, word32, both, via, such, mark_of, mark, many, vacant, up_to, beside, each_via}
-use Rattle.codec.proofs.Tests.{above, between}
+use Rattle.codec.specs.Code.{Code, byte, word32, both, via, such, mark, many, vacant, up_to, beside, each_via}
 use Rattle.machine.specs.Filter.{none_yet}
-use Rattle.machine.specs.Channel.{Chan, with_config, done_with, on_open, on_clear, get_in, set_in, on_get, set_to, on_set, clear, get_parameter, set_parameter}
+use Rattle.machine.specs.Channel.{Chan, Config, opened, says, with_config, done_with, on_open, on_clear, get_in, set_in, on_get, set_to, on_set, clear, get_parameter, set_parameter}
 use Rattle.machine.specs.Limits.{most_written}
-use Rattle.layout.specs.Sizes.{receiving_at, written_at, periodics_at, filters_size, mapped_size, periodics_size, written_size, receiving_size, rate_at, loopback_at, filters_at, number_size}
+use Rattle.layout.specs.Sizes.{receiving_at, written_at, periodics_at, filters_size, mapped_size, periodics_size, written_size, receiving_size, flags_at, config_size, filters_at}
 use Rattle.layout.specs.Record.{row, body, rec36, out_cell, in_cell}
 use Rattle.map_rule.specs.Map.{maps_size}
 use Rattle.map_rule.proofs.Pack.{no_filters as no_maps}
 use Rattle.derived.specs.Derived.{derived}
 use Rattle.codec.proofs.Lists.{zeros_join}
-use Rattle.layout.specs.Memory.{filter_columns, filters, mapped, periodic_columns, periodics, receiving_part}
+use Rattle.layout.specs.Memory.{config, filter_columns, filters, mapped, periodic_columns, periodics, receiving_part}
 use Rattle.layout.specs.Promise.{gives, Opened, call_outcome}
-use Rattle.layout.proofs.Region.{open_of, Part, stays, moves, mark_of_law, mark_stored, rate_part, loopback_part, filters_part, periodics_part, written_part, receiving_part_law}
-
-mark_number : (b : Bool) → mark_of b ≡ (if b then 1 else 0)
-mark_number true = refl
-mark_number false = refl
-
--- the two ways to ask whether a mark is 1
-one_either : (n : ℕ) → n ≤ 1 → eqb n 1 ≡ eqb 1 n
-one_either zero h = refl
-one_either (suc zero) h = refl
-one_either (suc (suc n)) h = absurd (omega arith)
+use Rattle.codec.proofs.Part.{part as part_of}
+use Rattle.layout.proofs.Memory.{config_lawful}
+use Rattle.layout.proofs.Sizes.{config_size_law}
+use Rattle.layout.proofs.Places.{config_place, good}
+use Rattle.layout.proofs.Region.{open_of, Part, kept, fine, stays, moves, filters_part, periodics_part, written_part, receiving_part_law}
 
 -- ---- calls on an open channel
 
+module _ (r : List ℕ) (o : Opened r) where
+  configured : Part r config flags_at config_size (open_of r).config (with_config (open_of r))
+  configured = part_of r (kept r o) config_size config_size_law (config_place (open_of r)) config_lawful (good (open_of r) (fine r o)).config_ok
+
+  -- what get and set ask of the nine bytes
+  pub lent : (length (take config_size (drop flags_at r)) ≡ config_size) × T (config.valid (take config_size (drop flags_at r)))
+  lent = (configured.long, configured.valid)
+
+  pub got : (rates : List ℕ) (t p k v : ℕ) → get_in (config.get (take config_size (drop flags_at r))) p ≡ (k, v) → gives k v [] r ≡ call_outcome rates t r (get_parameter p)
+  unfolding on_open on_get
+  got rates t p k v e =
+      let g : get_in (open_of r).config p ≡ (k, v) = ap (λ (c : Config). get_in c p) (sym configured.got) ∙ e in
+      stays r o rates t (get_parameter p) k v [] (ap (λ (x : ℕ × ℕ). (opened (open_of r), says x.0 x.1 [])) g)
+
+  pub stored : (rates : List ℕ) (t p v k : ℕ) (ys : List ℕ)
+      → (k ≡ (set_in rates (config.get (take config_size (drop flags_at r))) p v).0) × (ys ≡ config.put (set_in rates (config.get (take config_size (drop flags_at r))) p v).1)
+      → gives k 0 [] (put_mid flags_at config_size r ys) ≡ call_outcome rates t r (set_parameter p v)
+  unfolding on_open on_set set_to
+  stored rates t p v k ys e =
+      let c : Config = config.get (take config_size (drop flags_at r)) in
+      moves r o rates t (set_parameter p v) (with_config (open_of r) (set_in rates c p v).1) k 0 [] _
+      (ap (λ (c : Config). set_to (open_of r) (set_in rates c p v)) (sym configured.got) ∙ ap (λ (k : ℕ). (with_config (open_of r) (set_in rates c p v).1, says k 0 [])) (sym e.0))
+      (configured.becomes ys _ e.1)
+
 module _ (r : List ℕ) (o : Opened r) (rates : List ℕ) (t : ℕ) where
-  -- get
-
-  pub get_rate : (p n : ℕ) → p ≡ 1 → n ≡ (open_of r).config.rate → gives 0 n [] r ≡ call_outcome rates t r (get_parameter p)
-  unfolding on_open on_get get_in
-  get_rate p n e g = ap (λ (x : ℕ). gives 0 x [] r) g ∙ stays r o rates t (get_parameter p) 0 (open_of r).config.rate [] (rw (eq-eqb p 1 e) refl)
-
-  pub get_loopback : (p n : ℕ) → p ≡ 3 → n ≡ get_or r loopback_at 0 → gives 0 n [] r ≡ call_outcome rates t r (get_parameter p)
-  unfolding on_open on_get get_in
-  get_loopback p n e g =
-      ap (λ (x : ℕ). gives 0 x [] r) (g ∙ mark_of_law (loopback_part r o) ∙ mark_number (open_of r).config.loopback)
-      ∙ stays r o rates t (get_parameter p) 0 (if (open_of r).config.loopback then 1 else 0) [] (rw e refl)
-
-  pub get_unknown : (p : ℕ) → (p ≡ 1 → ⊥) → (p ≡ 3 → ⊥) → gives 1 0 [] r ≡ call_outcome rates t r (get_parameter p)
-  unfolding on_open on_get get_in
-  get_unknown p a b = stays r o rates t (get_parameter p) 1 0 [] (rw (ne_eqb p 1 a) (rw (ne_eqb p 3 b) refl))
-
-  -- set
-
-  pub set_rate_bad : (p n : ℕ) → p ≡ 1 → member n rates ≡ false → gives 5 0 [] r ≡ call_outcome rates t r (set_parameter p n)
-  unfolding on_open on_set set_to set_in with_config
-  set_rate_bad p n e b = stays r o rates t _ 5 0 [] (rw (eq-eqb p 1 e) (rw b refl))
-
-  pub set_rate : (p n : ℕ) (ys : List ℕ) → p ≡ 1 → member n rates ≡ true → ys ≡ word n → gives 0 0 [] (put_mid rate_at number_size r ys) ≡ call_outcome rates t r (set_parameter p n)
-  unfolding on_open on_set set_to set_in word32
-  set_rate p n ys e g y = moves r o rates t _ _ 0 0 [] _ (rw (eq-eqb p 1 e) (rw g refl)) ((rate_part r o).becomes ys n y)
-
-  pub set_mark_bad : (p n : ℕ) → p ≡ 3 → 1 < n → gives 5 0 [] r ≡ call_outcome rates t r (set_parameter p n)
-  unfolding on_open on_set set_to set_in with_config
-  set_mark_bad p n e b = stays r o rates t _ 5 0 [] (rw e (rw (above 0 1 n b) refl))
-
-  pub set_mark : (p n : ℕ) → p ≡ 3 → n ≤ 1 → gives 0 0 [] (set r loopback_at n) ≡ call_outcome rates t r (set_parameter p n)
-  unfolding on_open on_set set_to set_in with_config
-  set_mark p n e g =
-      moves r o rates t _ _ 0 0 [] _ (rw e (rw (between 0 1 n (omega arith) g) (rw (one_either n g) refl))) (mark_stored (loopback_part r o) (omega (arith, o.long)) n g)
-
-  pub set_unknown : (p n : ℕ) → (p ≡ 1 → ⊥) → (p ≡ 3 → ⊥) → gives 1 0 [] r ≡ call_outcome rates t r (set_parameter p n)
-  unfolding on_open on_set set_to set_in with_config
-  set_unknown p n a b = stays r o rates t _ 1 0 [] (rw (ne_eqb p 1 a) (rw (ne_eqb p 3 b) refl))
-
   -- clear: zeros over a part are the bytes of that part with nothing in it
 
   -- what a clear of n bytes from `off` on answers and leaves

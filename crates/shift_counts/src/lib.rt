@@ -111,7 +111,7 @@ pub fn count_frame(mem: &[u8], line: u32, wide: u32, id: u32, bytes: &[u8], numb
     if index >= LINES {
         return;
     }
-    let code = frame_tests::frame_code(wide, id, bytes);
+    let code = codes::code_of(frame_tests::frame_code(wide, id, bytes));
     if code != codes::STATUS_NOERROR {
         return;
     }

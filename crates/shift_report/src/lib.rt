@@ -3,6 +3,7 @@
 
 ghost use Rattle.std.specs.Prelude.{◌≡◌, ◌≤◌, T, length};
 ghost use Rattle.codec.specs.Plain.{zeros};
+ghost use Rattle.codes.specs.Code.{code_of};
 ghost use Rattle.recording_sizes.specs.Sizes.{longest, event_room};
 ghost use Rattle.whole.specs.Device.{power_on};
 ghost use Rattle.memory.specs.Memory.{image, valid};
@@ -13,17 +14,13 @@ ghost use Rattle.shift_cells.specs.Sums.{Sums};
 ghost use Rattle.shift_report.specs.Promise.{tells, reported};
 ghost use Rattle.shift_report.specs.Counting.{CountedAs, Counting, AllCounted};
 
-use events::Found;
+use codes::Refusal;
 
 // Every number is 0.
 fn clear(numbers: &mut [u32])
     ensures { numbers.new ≡ zeros (length numbers.old) }
 {
-    let mut i = 0;
-    while i < numbers.len() {
-        numbers[i] = 0;
-        i += 1;
-    }
+    numbers.fill(0);
 }
 
 // Counts and plays the event at a place, and gives the place after it; a bad one ends the recording.
@@ -37,7 +34,7 @@ fn count_at(
     requires { T (valid mem.old) × Sums numbers.old × (event_room ≤ length out.old) }
     ensures { CountedAs (rates_of recording.now) (read_event recording.now at) recording.now mem.old numbers.old result mem.new numbers.new }
 {
-    let Found::Good(e, next) = event_reader::read_event(recording, at) else {
+    let Some((e, next)) = event_reader::read_event(recording, at) else {
         return recording.len();
     };
     shift_events::count(mem, recording, e, numbers);
@@ -51,6 +48,7 @@ fn count_events(mem: &mut [u8], recording: &[u8], start: usize, numbers: &mut [u
     ensures { AllCounted recording.now mem.new numbers.new }
 {
     let mut at = start;
+    // each event says where the next begins, which no `for` counts
     while at < recording.len() {
         at = count_at(mem, recording, at, numbers, out);
     }
@@ -71,18 +69,18 @@ fn count_all(mem: &mut [u8], recording: &[u8], numbers: &mut [u32])
 
 // Reports a recording: 0x04 where the memory is not as long as a box's or there are other than 44 numbers, and nothing changes; else 0x00, the 44
 // numbers, eleven a channel, and the memory of the box after the recording, from power-on whatever it was before.
-pub fn report(mem: &mut [u8], recording: &[u8], numbers: &mut [u32]) -> u32
-    ensures { tells result numbers.new mem.new ≡ reported mem.old recording.now numbers.old }
+pub fn report(mem: &mut [u8], recording: &[u8], numbers: &mut [u32]) -> Result<(), Refusal>
+    ensures { tells (code_of result) numbers.new mem.new ≡ reported mem.old recording.now numbers.old }
 {
     if mem.len() != box_places::BOX {
-        return codes::ERR_NULL_PARAMETER;
+        return Err(Refusal::NullParameter);
     }
     if numbers.len() != shift_places::REPORT {
-        return codes::ERR_NULL_PARAMETER;
+        return Err(Refusal::NullParameter);
     }
     octets::zero(mem);
     clear(numbers);
     count_all(mem, recording, numbers);
     shift_counts::count_each_held(mem, shift_places::HELD, numbers);
-    codes::STATUS_NOERROR
+    Ok(())
 }

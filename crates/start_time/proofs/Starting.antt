@@ -1,4 +1,5 @@
 -- A start, part after part. Assumes nothing.
+use Rattle.std.specs.Prelude.{Some, None, Ok, Err}
 use Prim.Native.Nat.{ℕ, ◌+◌, ◌-◌, ◌*◌, ◌≤◌, ◌<◌}
 use mathlib.Core.Path.{◌≡◌, refl, sym, ap, ◌∙◌}
 use mathlib.Core.Bool.{Bool, true, false}
@@ -12,21 +13,20 @@ use lib.Seq.{take_all}
 use Rattle.text.specs.Text.{number_of}
 use Rattle.text.proofs.Text.{number_some}
 use Rattle.text_reader.specs.Reading.{before, far, near, valued, near_value}
-use Rattle.text_reader.specs.declared.Value.TheVariants.{Number, Bad}
-use Rattle.text_reader.proofs.Digits.{near_is, near_far, NearNumber, number_missing}
+use Rattle.text_reader.proofs.Digits.{near_is, near_far, NearNumber, number_missing, valued_some, valued_none}
 use Rattle.candump.specs.Line.{second, point}
 use Rattle.candump.specs.Log.{latest}
 use Rattle.log_reader.proofs.Cutting.{cut_found, cut_missing}
 use Rattle.start_time.specs.Start.{decimals_in, parted, start_in, within, told, start_of}
-use Rattle.start_time.specs.declared.Start.TheVariants.{At, Late, Unreadable}
+use Rattle.start_time.specs.declared.StartError.TheVariants.{Late, Unreadable}
 
 -- ---- the limit
 
-pub is_late : (t : ℕ) → latest < t → Late ≡ within t
+pub is_late : (t : ℕ) → latest < t → Err Late ≡ within t
 unfolding within
 is_late t h = rw (lt-ltb latest t h)
 
-pub in_time : (t : ℕ) → t ≤ latest → At t ≡ within t
+pub in_time : (t : ℕ) → t ≤ latest → Ok t ≡ within t
 unfolding within
 in_time t h = rw (le-ltb latest t h)
 
@@ -41,31 +41,19 @@ near_within s n m e = by (leb s far) refl
         let n_is : n ≡ far = sym e ∙ near_far s large in
         sym (is_late (n * second + m) (omega arith)) ∙ is_late (s * second + m) (omega arith)
 
--- ---- decimals that are there
-
-pub valued_number : (o : Option ℕ) (m : ℕ) → Number m ≡ valued o → o ≡ some m
-unfolding valued
-valued_number none m e = let z : ◌≡◌ {A = ℕ} 0 1 = cc in absurd (omega arith)
-valued_number (some v) m e = let same : m ≡ v = cc in ap some (sym same)
-
-pub valued_bad : (o : Option ℕ) → Bad ≡ valued o → o ≡ none
-unfolding valued
-valued_bad none e = refl
-valued_bad (some v) e = let z : ◌≡◌ {A = ℕ} 0 1 = cc in absurd (omega arith)
-
 -- ---- what the parts make
 
-no_text : (k : List ℕ) → length k ≤ 0 → Unreadable ≡ told (parted k none)
+no_text : (k : List ℕ) → length k ≤ 0 → Err Unreadable ≡ told (parted k none)
 unfolding told parted number_of
 no_text [] h = refl
 no_text (c ∷ cs) h = absurd (omega arith)
 
-only_point : (k r : List ℕ) → Unreadable ≡ told (parted k (some (take 0 k, r)))
+only_point : (k r : List ℕ) → Err Unreadable ≡ told (parted k (some (take 0 k, r)))
 unfolding told parted number_of bind
 only_point k r = refl
 
 module _ (k : List ℕ) where
-  plain_bad : number_of 10 k ≡ none → Unreadable ≡ told (parted k none)
+  plain_bad : number_of 10 k ≡ none → Err Unreadable ≡ told (parted k none)
   unfolding told parted
   plain_bad q = rw q
 
@@ -74,11 +62,11 @@ module _ (k : List ℕ) where
   plain_good v q = rw q
 
   module _ (t r : List ℕ) where
-    pointed_bad : number_of 10 t ≡ none → Unreadable ≡ told (parted k (some (t, r)))
+    pointed_bad : number_of 10 t ≡ none → Err Unreadable ≡ told (parted k (some (t, r)))
     unfolding told parted bind
     pointed_bad q = rw q
 
-    rest_bad : (v : ℕ) → number_of 10 t ≡ some v → decimals_in r ≡ none → Unreadable ≡ told (parted k (some (t, r)))
+    rest_bad : (v : ℕ) → number_of 10 t ≡ some v → decimals_in r ≡ none → Err Unreadable ≡ told (parted k (some (t, r)))
     unfolding told parted bind
     rest_bad v q d = rw (q, d)
 
@@ -100,14 +88,14 @@ module _ (l : List ℕ) (dot : ℕ) (found : dot ≡ 0 + before point (drop 0 l)
   without h = ap (parted l) (cut_missing point l 0 dot (omega arith) found h)
 
   -- nothing before the point, or nothing at all
-  pub no_seconds : dot < 1 → Unreadable ≡ start_of l
+  pub no_seconds : dot < 1 → Err Unreadable ≡ start_of l
   unfolding start_of
   no_seconds h = by (ltb dot (length l)) refl
     where
       z : dot ≡ 0
       z = omega arith
 
-      by : (g : Bool) → ltb dot (length l) ≡ g → Unreadable ≡ told (start_in l)
+      by : (g : Bool) → ltb dot (length l) ≡ g → Err Unreadable ≡ told (start_in l)
       by true q = only_point l (drop (dot + 1) l) ∙ ap (λ (n : ℕ). told (parted l (some (take n l, drop (dot + 1) l)))) (sym z) ∙ ap told (sym (with_point (ltb-true dot (length l) q)))
       by false q = no_text l (omega (arith, ltb-false dot (length l) q)) ∙ ap told (sym (without (ltb-false dot (length l) q)))
 
@@ -118,14 +106,14 @@ module _ (l : List ℕ) (dot : ℕ) (found : dot ≡ 0 + before point (drop 0 l)
     all : length l ≤ dot → take dot l ≡ l
     all h = take_all dot l h
 
-    pub bad_seconds : Bad ≡ near_value 10 (take dot l) → Unreadable ≡ start_of l
+    pub bad_seconds : None ≡ near_value 10 (take dot l) → Err Unreadable ≡ start_of l
     unfolding start_of
     bad_seconds e = by (ltb dot (length l)) refl
       where
         none_there : number_of 10 (take dot l) ≡ none
         none_there = number_some 10 (take dot l) long ∙ number_missing 10 (take dot l) e
 
-        by : (g : Bool) → ltb dot (length l) ≡ g → Unreadable ≡ told (start_in l)
+        by : (g : Bool) → ltb dot (length l) ≡ g → Err Unreadable ≡ told (start_in l)
         by true q = pointed_bad l (take dot l) (drop (dot + 1) l) none_there ∙ ap told (sym (with_point (ltb-true dot (length l) q)))
         by false q =
             let h : length l ≤ dot = ltb-false dot (length l) q in
@@ -148,14 +136,14 @@ module _ (l : List ℕ) (dot : ℕ) (found : dot ≡ 0 + before point (drop 0 l)
           ∙ ap told (sym (without h))
 
       module _ (h : dot < length l) where
-        pub bad_rest : Bad ≡ valued (decimals_in (drop (dot + 1) l)) → Unreadable ≡ start_of l
+        pub bad_rest : None ≡ valued (decimals_in (drop (dot + 1) l)) → Err Unreadable ≡ start_of l
         unfolding start_of
-        bad_rest e = rest_bad l (take dot l) (drop (dot + 1) l) n.exact seconds_are (valued_bad (decimals_in (drop (dot + 1) l)) e) ∙ ap told (sym (with_point h))
+        bad_rest e = rest_bad l (take dot l) (drop (dot + 1) l) n.exact seconds_are (valued_none (decimals_in (drop (dot + 1) l)) e) ∙ ap told (sym (with_point h))
 
         -- SECONDS.DECIMALS
-        pub both_parts : (m : ℕ) → Number m ≡ valued (decimals_in (drop (dot + 1) l)) → within (s * second + m) ≡ start_of l
+        pub both_parts : (m : ℕ) → Some m ≡ valued (decimals_in (drop (dot + 1) l)) → within (s * second + m) ≡ start_of l
         unfolding start_of
         both_parts m e =
             near_within n.exact s m n.nears
-            ∙ pointed_good l (take dot l) (drop (dot + 1) l) n.exact m seconds_are (valued_number (decimals_in (drop (dot + 1) l)) m e)
+            ∙ pointed_good l (take dot l) (drop (dot + 1) l) n.exact m seconds_are (valued_some (decimals_in (drop (dot + 1) l)) m e)
             ∙ ap told (sym (with_point h))

@@ -1,5 +1,5 @@
 -- The decimals of a start. Assumes nothing.
-use Rattle.std.specs.Prelude.{if◌then◌else◌}
+use Rattle.std.specs.Prelude.{if◌then◌else◌, Some, None}
 use Prim.Native.Nat.{ℕ, zero, suc, ◌+◌, ◌-◌, ◌*◌, ◌^◌, ◌≤◌, ◌<◌}
 use mathlib.Core.Path.{◌≡◌, refl, sym, ◌∙◌}
 use mathlib.Core.Bool.{Bool, true, false, ◌&&◌}
@@ -13,7 +13,6 @@ use lib.ListN.{length}
 use Rattle.codec.proofs.Tests.{left, right, true_T}
 use Rattle.text.specs.Text.{value_of}
 use Rattle.text_reader.specs.Reading.{valued, near_value}
-use Rattle.text_reader.specs.declared.Value.TheVariants.{Number, Bad}
 use Rattle.text_reader.proofs.Digits.{near_is, NearNumber, number_missing, below_power}
 use Rattle.start_time.specs.Start.{most_decimals, unit_of, decimals_in}
 
@@ -69,7 +68,7 @@ power_most = of_six (λ n. (0 + 1) * 10 ^ n ≤ 1_000_000) (omega arith) (omega 
 -- ---- the decimals of a text
 
 module _ (l : List ℕ) where
-  pub no_unit : unit_of (length l) < 1 → Bad ≡ valued (decimals_in l)
+  pub no_unit : unit_of (length l) < 1 → None ≡ valued (decimals_in l)
   unfolding decimals_in valued
   no_unit h = rw (eq-eqb (unit_of (length l)) 0 (omega arith))
 
@@ -77,11 +76,11 @@ module _ (l : List ℕ) where
     there : eqb (unit_of (length l)) 0 ≡ false
     there = ne_eqb (unit_of (length l)) 0 (λ e. omega arith)
 
-    pub bad_decimals : Bad ≡ near_value 10 l → Bad ≡ valued (decimals_in l)
+    pub bad_decimals : None ≡ near_value 10 l → None ≡ valued (decimals_in l)
     unfolding decimals_in valued
     bad_decimals e = rw (there, number_missing 10 l e)
 
-    pub good_decimals : (v : ℕ) → NearNumber 10 l v → Number (v * unit_of (length l)) ≡ valued (decimals_in l)
+    pub good_decimals : (v : ℕ) → NearNumber 10 l v → Some (v * unit_of (length l)) ≡ valued (decimals_in l)
     unfolding decimals_in valued
     good_decimals v k =
         let small : k.exact < 1_000_000 = omega (arith, below_power 10 0 l k.exact k.is, power_most (length l) (unit_few (length l) h)) in

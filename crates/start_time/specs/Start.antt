@@ -1,11 +1,11 @@
 -- Request P11: the start time that a program is given, seconds with an optional point and one to six decimals. Assumes nothing.
-use Rattle.std.specs.Prelude.{ℕ, ◌+◌, ◌-◌, ◌*◌, ◌^◌, ◌&&◌, List, eqb, leb, ltb, length, if◌then◌else◌}
+use Rattle.std.specs.Prelude.{ℕ, ◌+◌, ◌-◌, ◌*◌, ◌^◌, ◌&&◌, List, eqb, leb, ltb, length, if◌then◌else◌, Result, Ok, Err}
 use Rattle.std.proofs.Math.Option.{Option, none, some, map, bind}
 use Rattle.text.specs.Text.{value_of, number_of}
 use Rattle.candump.specs.Line.{second, point, cut}
 use Rattle.candump.specs.Log.{latest}
-use Rattle.start_time.specs.declared.Start.{Start}
-use Rattle.start_time.specs.declared.Start.TheVariants.{At, Late, Unreadable}
+use Rattle.start_time.specs.declared.StartError.{StartError}
+use Rattle.start_time.specs.declared.StartError.TheVariants.{Late, Unreadable}
 
 -- the most decimals
 abbrev pub most_decimals : ℕ
@@ -28,13 +28,13 @@ unfoldable pub start_in : List ℕ → Option ℕ
 start_in l = parted l (cut point l)
 
 -- a time within the limit
-unfoldable pub within : ℕ → Start
-within t = if ltb latest t then Late else At t
+unfoldable pub within : ℕ → Result ℕ StartError
+within t = if ltb latest t then Err Late else Ok t
 
-unfoldable pub told : Option ℕ → Start
-told none = Unreadable
+unfoldable pub told : Option ℕ → Result ℕ StartError
+told none = Err Unreadable
 told (some t) = within t
 
 -- THE START that a text says
-unfoldable pub start_of : List ℕ → Start
+unfoldable pub start_of : List ℕ → Result ℕ StartError
 start_of l = told (start_in l)

@@ -6,14 +6,27 @@ ghost use Rattle.text_reader.specs.Reading.{valued};
 ghost use Rattle.start_time.specs.Start.{unit_of, decimals_in, start_of, within};
 
 use candump::{LATEST, POINT, SECOND, TEN};
-use text_reader::Value;
+use std::fmt;
 
-// A start in microseconds; or one that is over the limit, or a text that is no start.
-#[derive(Drop)]
-pub enum Start {
-    At(u64),
+// Why a text is no start: it is over the limit, or it can't be read as one.
+#[derive(Clone, Copy)]
+pub enum StartError {
     Late,
     Unreadable,
+}
+
+impl fmt::Display for StartError {
+    fn fmt<W: fmt::Write>(&self, f: &mut fmt::Formatter<W>) -> fmt::Result {
+        match self {
+            StartError::Late => write!(f, "it is over 4000000000 seconds"),
+            StartError::Unreadable => {
+                write!(
+                    f,
+                    "it must be seconds, alone or with a point and one to six decimals"
+                )
+            }
+        }
+    }
 }
 
 // The microseconds of one in the last of so many decimals; 0 where there are none or more than six.
@@ -32,46 +45,44 @@ fn unit(decimals: usize) -> u64
 }
 
 // The microseconds of the decimals behind a point.
-fn read_decimals(text: &[u8]) -> Value
+fn read_decimals(text: &[u8]) -> Option<u64>
     ensures { result ≡ valued (decimals_in text.now) }
 {
     let each = unit(text.len());
     if each < 1 {
-        return Value::Bad;
+        return None;
     }
-    let Value::Number(v) = text_reader::number(text, TEN) else {
-        return Value::Bad;
-    };
-    Value::Number(v * each)
+    let v = text_reader::number(text, TEN)?;
+    Some(v * each)
 }
 
 // A time as a start, if it is within the limit.
-fn bounded(time: u64) -> Start
+fn bounded(time: u64) -> Result<u64, StartError>
     ensures { result ≡ within time }
 {
     if time > LATEST {
-        return Start::Late;
+        return Err(StartError::Late);
     }
-    Start::At(time)
+    Ok(time)
 }
 
 // The start that a text says, in microseconds.
-pub fn read_start(text: &[u8]) -> Start
+pub fn read_start(text: &[u8]) -> Result<u64, StartError>
     ensures { result ≡ start_of text.now }
 {
-    let dot = text_reader::find(text, 0, POINT);
+    let dot = text_reader::find(text, 0, POINT).unwrap_or(text.len());
     if dot < 1 {
-        return Start::Unreadable;
+        return Err(StartError::Unreadable);
     }
-    let Value::Number(seconds) = text_reader::number(&text[..dot], TEN) else {
-        return Start::Unreadable;
+    let Some(seconds) = text_reader::number(&text[..dot], TEN) else {
+        return Err(StartError::Unreadable);
     };
     if dot >= text.len() {
         return bounded(seconds * SECOND);
     }
     let from = dot + 1;
-    let Value::Number(micro) = read_decimals(&text[from..]) else {
-        return Start::Unreadable;
+    let Some(micro) = read_decimals(&text[from..]) else {
+        return Err(StartError::Unreadable);
     };
     bounded(seconds * SECOND + micro)
 }

@@ -18,7 +18,7 @@ use Rattle.machine.specs.Channel.{filter_in, periodic_in, body_in, version_in, s
 use Rattle.setups.specs.Saved.{takes_store}
 use Rattle.setups.proofs.Reading.{no_value, Split, split, done_there, only_there, Entire, whole_there}
 use Rattle.store_records.specs.Places.{after_of}
-use Rattle.store_check.specs.Walk.{head_in, flags_in, config_in, Laid, Taken}
+use Rattle.store_check.specs.Walk.{ends_at, head_in, flags_in, config_in, Laid, Taken}
 use Rattle.store_check.proofs.Slots.{from_0, after_done, slots_at}
 
 -- ---- the flags
@@ -99,11 +99,6 @@ config_any f rates s at = go (only (λ r. member r rates) number s at)
 
 -- ---- the whole
 
--- it ends here
-abbrev ends_at : ℕ → Option ℕ → Bool
-ends_at long none = false
-ends_at long (some e) = eqb e long
-
 module _ (rates s : List ℕ) where
   -- a store is its flags and what follows them
   head_first : store_in rates s 0 ≡ (head_in >>= body_in rates) s 0
@@ -176,21 +171,13 @@ module _ (rates s : List ℕ) where
         no_periodics e = sym (own_flags ∙ rw (a, e))
 
         module _ {ps : Slots (Rec × ℕ)} {last : ℕ} (b : slots_in (periodic_in flags) s middle ≡ some (ps, last)) where
-          by_config : takes_store flags (read_whole (store_in rates) s) ≡ ends_at (length s) (after_of (config_in rates s last))
+          pub ended : ends_at (length s) (after_of (config_in rates s last)) ≡ takes_store flags (read_whole (store_in rates) s)
           unfolding body_in ◌>>=◌ bind
-          by_config =
-              own_flags
+          ended =
+              sym (own_flags
               ∙ rw (a, b)
               (ap (ends_at (length s))
-              (config_any (λ rate l. record { flags = flags; filters = fs; periodics = ps; rate = rate; loopback = eqb l 1 }) rates s last))
-
-          pub no_config : config_in rates s last ≡ none → false ≡ takes_store flags (read_whole (store_in rates) s)
-          unfolding after_of
-          no_config e = sym (by_config ∙ ap (λ (o : Option ((ℕ × ℕ) × ℕ)). ends_at (length s) (after_of o)) e)
-
-          pub ends_there : {c : ℕ × ℕ} {end : ℕ} → config_in rates s last ≡ some (c, end) → eqb end (length s) ≡ takes_store flags (read_whole (store_in rates) s)
-          unfolding after_of
-          ends_there e = sym (by_config ∙ ap (λ (o : Option ((ℕ × ℕ) × ℕ)). ends_at (length s) (after_of o)) e)
+              (config_any (λ rate l. record { flags = flags; filters = fs; periodics = ps; rate = rate; loopback = eqb l 1 }) rates s last)))
 
 -- ---- where the parts stand
 

@@ -1,18 +1,32 @@
 -- The parts of a store that are walked one after the other, and where each of a store that reads stands. Assumes nothing.
-use Rattle.std.specs.Prelude.{ℕ, ◌≤◌, ◌≡◌, List, T, eqb, leb, length, if◌then◌else◌}
-use Rattle.std.proofs.Math.Option.{Option, none, some}
+use Rattle.std.specs.Prelude.{ℕ, Bool, false, ◌≤◌, ◌≡◌, List, T, eqb, leb, length, if◌then◌else◌}
+use Rattle.std.specs.Prelude as std
+use Rattle.std.proofs.Math.Option.{Option, none, some, map}
 use Rattle.codec.specs.Plain.{member}
 use Rattle.number.specs.declared.Number.{Number}
-use Rattle.number.specs.declared.Number.TheVariants as read
 use Rattle.number.specs.Reads.{Reads, ◌>>=◌, done, bad, number, only}
 use Rattle.machine.specs.Limits.{most_places}
 use Rattle.machine.specs.Store.{Setup, each_in, placed, read_whole}
 use Rattle.machine.specs.Channel.{filter_in, periodic_in, store_in}
+use Rattle.store_records.specs.Places.{place_of}
 
 -- a number and the place after it, none where it is bad
-abbrev pub found_of : Number → Option (ℕ × ℕ)
-found_of (read.Value value next) = some (value, next)
-found_of read.Bad = none
+abbrev pub found_of : std.Option Number → Option (ℕ × ℕ)
+found_of (std.Some number) = some (number.value, number.next)
+found_of std.None = none
+
+-- the place after something, read where all that is known is where it ends
+unfoldable pub ending : (ℕ → Option ℕ) → Reads ℕ
+ending ends s at = map (λ n. (n, n)) (ends at)
+
+-- what answers for a place answers with where something ends
+abbrev pub Finds : (ℕ → Option ℕ) → (ℕ → std.Option ℕ → Type 0) → Type 0
+Finds ends answers = (at : ℕ) (r : std.Option ℕ) → answers at r → place_of r ≡ ends at
+
+-- it ends here
+abbrev pub ends_at : ℕ → Option ℕ → Bool
+ends_at long none = false
+ends_at long (some e) = eqb e long
 
 -- the flags: 0 of version 1, the number behind the version in version 2
 unfoldable pub head_in : Reads ℕ

@@ -1,116 +1,73 @@
 // Where a bad store is bad: the place of the first number, filter or periodic that no channel of its flags would take.
+// A walk gives the place behind what is good, or else the place of what is bad.
 #![tactic(auto)]
 
-use number::Number;
-use store_records::Place;
-
-// How far a walk came, and whether all before is good. Where it is not, that is the place of what is bad.
-#[derive(Drop)]
-struct Walk {
-    good: bool,
-    at: usize,
-}
-
-// A walk that is good up to a place.
-fn past(at: usize) -> Walk {
-    Walk { good: true, at }
-}
-
-// A walk that stops at a place.
-fn stop(at: usize) -> Walk {
-    Walk { good: false, at }
-}
-
 // Behind a store's version, and its flags in version 2.
-fn head(store: &[u8]) -> Walk {
-    let Number::Value {
-        value: version,
-        next,
-    } = number::number_at(store, 0)
-    else {
-        return stop(0);
-    };
-    if version == 1 {
-        return past(next);
+fn head(store: &[u8]) -> Result<usize, usize> {
+    let version = number::number_at(store, 0).ok_or(0usize)?;
+    if version.value == 1 {
+        return Ok(version.next);
     }
-    if version != 2 {
-        return stop(0);
+    if version.value != 2 {
+        return Err(0);
     }
-    let Number::Value {
-        value: _,
-        next: body,
-    } = number::number_at(store, next)
-    else {
-        return stop(next);
-    };
-    past(body)
+    let flags = number::number_at(store, version.next).ok_or(version.next)?;
+    Ok(flags.next)
 }
 
-// The place after a periodic, or a filter, behind its number.
-fn entry_end(store: &[u8], at: usize, flags: u32, periodic: bool) -> Place {
-    if !periodic {
-        return store_records::filter_end(store, at, flags);
-    }
+// The place after a periodic, none where it would begin past the end of the store.
+fn periodic_end(store: &[u8], at: usize, flags: u32) -> Option<usize> {
     if at <= store.len() {
         return store_records::periodic_end(store, at, flags);
     }
-    Place::Bad
+    None
 }
 
-// Behind the filters, or the periodics, where all before is good.
-fn entries(store: &[u8], before: Walk, flags: u32, periodic: bool) -> Walk {
-    if !before.good {
-        return before;
-    }
+// Behind the filters, or the periodics, each of which ends where `find` says.
+fn entries<F: Fn(usize) -> Option<usize>>(store: &[u8], at: usize, find: F) -> Result<usize, usize>
+    requires { F.IsAlwaysCallable find }
+{
     let most = places::PLACES as u32;
-    let Number::Value { value: count, next } = store_check::number_within(store, before.at, 0, most)
-    else {
-        return stop(before.at);
-    };
-    let mut place = next;
+    let count = store_check::number_within(store, at, 0, most).ok_or(at)?;
+    let mut place = count.next;
     let mut last = 0;
-    let mut left = count;
-    while left > 0 {
-        let Number::Value { value, next: entry } = number::number_at(store, place) else {
-            return stop(place);
-        };
-        if (value <= last) | (value > most) {
-            return stop(place);
+    for _ in 0..count.value {
+        let number = number::number_at(store, place).ok_or(place)?;
+        if (number.value <= last) | (number.value > most) {
+            return Err(place);
         }
-        let Place::At { next: end } = entry_end(store, entry, flags, periodic) else {
-            return stop(place);
-        };
-        last = value;
-        place = end;
-        left -= 1;
+        place = find(number.next).ok_or(place)?;
+        last = number.value;
     }
-    past(place)
+    Ok(place)
 }
 
-// Behind the rate and the loopback, where all before is good.
-fn config(store: &[u8], before: Walk, rates: &[u32]) -> Walk {
-    if !before.good {
-        return before;
+// Behind the rate and the loopback.
+fn config(store: &[u8], at: usize, rates: &[u32]) -> Result<usize, usize> {
+    let rate = number::number_at(store, at).ok_or(at)?;
+    if !can::is_rate(rates, rate.value) {
+        return Err(at);
     }
-    let Number::Value {
-        value: rate,
-        next: loopback,
-    } = number::number_at(store, before.at)
-    else {
-        return stop(before.at);
-    };
-    if !can::is_rate(rates, rate) {
-        return stop(before.at);
-    }
-    let Number::Value { value: _, next } = store_check::number_within(store, loopback, 0, 1) else {
-        return stop(loopback);
-    };
-    past(next)
+    let loopback = store_check::number_within(store, rate.next, 0, 1).ok_or(rate.next)?;
+    Ok(loopback.next)
+}
+
+// Behind all of a store of these flags.
+fn all(store: &[u8], rates: &[u32], flags: u32) -> Result<usize, usize> {
+    let filters = head(store)?;
+    let periodics = entries(
+        store,
+        filters,
+        |at| store_records::filter_end(store, at, flags),
+    )?;
+    let rate = entries(store, periodics, |at| periodic_end(store, at, flags))?;
+    config(store, rate, rates)
 }
 
 // The place at which a bad store of these flags is bad: the first byte too many where all before is good.
 pub fn bad_at(store: &[u8], rates: &[u32], flags: u32) -> usize {
-    let filters = entries(store, head(store), flags, false);
-    let periodics = entries(store, filters, flags, true);
-    config(store, periodics, rates).at
+    match all(store, rates, flags) {
+        Ok(end) => end,
+        Err(bad) => bad,
+    }
 }

@@ -1,5 +1,7 @@
 -- What reads at a place of a store: a number, a filter, a periodic, the first of several entries. Assumes nothing.
 use Rattle.std.specs.Prelude.{if◌then◌else◌}
+use Rattle.std.specs.Prelude as std
+use Rattle.std.specs.Option.{unwrap_or}
 use Prim.Native.Nat.{ℕ, zero, suc, ◌+◌, ◌≤◌, ◌<◌}
 use mathlib.Core.Path.{◌≡◌, refl, sym, ap, ap₂, subst, ◌∙◌}
 use mathlib.Core.Bool.{Bool, true, false, not, ◌&&◌}
@@ -12,7 +14,6 @@ use lib.ListN.{length, take, drop}
 use Rattle.codec.specs.Plain.{within}
 use Rattle.codec.proofs.Tests.{join, within_low, within_high, left, right}
 use Rattle.number.specs.declared.Number.{Number}
-use Rattle.number.specs.declared.Number.TheVariants.{Value, Bad}
 use Rattle.number.specs.Number.{Found, number_in}
 use Rattle.number.specs.Place.{answer, number_at}
 use Rattle.number.specs.Reads.{Reads, number, bytes, only}
@@ -29,29 +30,17 @@ use Rattle.store_filling.specs.Filling.{NumberThere, There, Gives}
 
 -- ---- a number
 
-module _ (s : List ℕ) (at : ℕ) (r : Number) (e : r ≡ number_at s at) where
+module _ (s : List ℕ) (at : ℕ) where
   abbrev pair_at : Found → ℕ × ℕ
   pair_at f = (f.value, at + f.size)
 
-  pub number_good : (v n : ℕ) → r ≡ Value v n → NumberThere s at v n
+  pub number_or : {o : std.Option Number} (d r : Number) → o ≡ number_at s at → r ≡ unwrap_or o d → NumberThere s at r.value r.next
   unfolding number_at answer number
-  number_good v n g v' n' = go (number_in (drop at s)) (sym e ∙ g)
+  number_or d r w e v n = go (number_in (drop at s)) (e ∙ ap (λ (k : std.Option Number). unwrap_or k d) w)
     where
-      go : (o : Option Found) → answer at o ≡ Value v n → map pair_at o ≡ some (v', n') → (v ≡ v') × (n ≡ n')
+      go : (o : Option Found) → r ≡ unwrap_or (answer at o) d → map pair_at o ≡ some (v, n) → (r.value ≡ v) × (r.next ≡ n)
       go none h k = no_value k
-      go (some f) h k =
-          let p : pair_at f ≡ (v', n') = same k in
-          let a : f.value ≡ v = cc in
-          let b : at + f.size ≡ n = cc in
-          (sym a ∙ ap (λ x. x.0) p, sym b ∙ ap (λ x. x.1) p)
-
-  pub number_bad : (v n : ℕ) → r ≡ Bad → NumberThere s at v n
-  unfolding number_at answer number
-  number_bad v n g v' n' = go (number_in (drop at s)) (sym e ∙ g)
-    where
-      go : (o : Option Found) → answer at o ≡ Bad → map pair_at o ≡ some (v', n') → (v ≡ v') × (n ≡ n')
-      go none h k = no_value k
-      go (some f) h k = let z : ◌≡◌ {A = ℕ} 0 1 = cc in absurd (omega arith)
+      go (some f) h k = (ap (λ (x : Number). x.value) h ∙ ap (λ x. x.0) (same k), ap (λ (x : Number). x.next) h ∙ ap (λ x. x.1) (same k))
 
 -- ---- a record
 

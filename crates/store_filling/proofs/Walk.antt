@@ -69,8 +69,8 @@ module _ {A B : Type 0} (p : ℕ → Reads A) (g : Option A → Option B) (d : �
       subst (λ (x : Slots A). T ((d flags).ok (map g x))) q.is (filled_ok size law s b flags q.count 0 q.place none_yet q.es next (law.empty flags) q.each)
 
   module _ (size : ℕ) (law : Kept size) (s : List ℕ) (at n : ℕ) where
-    pub walk_starts : (m : List ℕ) → m ≡ zeros size → Walked s at n m at n
-    walk_starts m e flags es end r = record { before = 0; more = es; read = r; slots = none_yet; ok = law.empty flags; is = e ∙ sym (law.none_is flags); same = refl }
+    pub walk_starts : (m : List ℕ) (left : ℕ) → left ≡ n → m ≡ zeros size → Walked s at n m at left
+    walk_starts m left z e flags es end r = record { before = 0; more = es; read = ap (λ (k : ℕ). each_in (p flags) 0 k s at) z ∙ r; slots = none_yet; ok = law.empty flags; is = e ∙ sym (law.none_is flags); same = refl }
 
     pub walk_ends : (m : List ℕ) (next left : ℕ) → left ≡ 0 → Walked s at n m next left → Gives (λ k. each_in (p k) 0 n) s at next m (λ k es. (d k).put (map g (filled none_yet es)))
     unfolding each_in filled

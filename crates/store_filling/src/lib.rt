@@ -16,21 +16,11 @@ ghost use Rattle.store_filling.specs.Filling.{NumberThere, There, Room, Gives};
 use number::Number;
 use places::RECORD;
 
-// A number of a store, and the place after it.
-#[derive(Drop)]
-pub struct Read {
-    pub value: u32,
-    pub next: usize,
-}
-
-// The number that stands at a place.
-pub fn number_there(store: &[u8], at: usize) -> Read
+// The number that stands at a place, and the place after it; 0 and the same place where there is none.
+pub fn number_there(store: &[u8], at: usize) -> Number
     ensures { NumberThere store.now at result.value result.next }
 {
-    let Number::Value { value, next } = number::number_at(store, at) else {
-        return Read { value: 0, next: at };
-    };
-    Read { value, next }
+    number::number_at(store, at).unwrap_or(Number { value: 0, next: at })
 }
 
 // A filter of a store at a place: its type and its two records.
@@ -63,11 +53,9 @@ pub fn fill_filters(part: &mut [u8], store: &[u8], at: usize, n: u32) -> usize
     ensures { Gives (λ flags. each_in (filter_in flags) 0 n) store.now at result part.new (λ flags es. (filters flags).put (filled none_yet es)) }
 {
     let mut next = at;
-    let mut left = n;
-    while left > 0 {
+    for _ in 0..n {
         let number = number_there(store, next);
         next = fill_filter(part, number.value as usize - 1, store, number.next);
-        left -= 1;
     }
     next
 }
@@ -78,11 +66,9 @@ pub fn fill_periodics(part: &mut [u8], store: &[u8], at: usize, n: u32) -> usize
     ensures { Gives (λ flags. each_in (periodic_in flags) 0 n) store.now at result part.new (λ flags es. (periodics flags).put (map starts_anew (filled none_yet es))) }
 {
     let mut next = at;
-    let mut left = n;
-    while left > 0 {
+    for _ in 0..n {
         let number = number_there(store, next);
         next = fill_periodic(part, number.value as usize - 1, store, number.next);
-        left -= 1;
     }
     next
 }

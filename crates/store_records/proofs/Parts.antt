@@ -12,8 +12,8 @@ use lib.ListN.{length, take, drop, length-drop}
 use lib.Seq.{take_all, length-take-le}
 use Rattle.codec.specs.Word.{word_at}
 use Rattle.codec.proofs.Tests.{T_false}
+use Rattle.std.specs.Prelude as std
 use Rattle.number.specs.declared.Number.{Number}
-use Rattle.number.specs.declared.Number.TheVariants.{Value, Bad}
 use Rattle.number.specs.Number.{Found, number_in}
 use Rattle.number.specs.Place.{answer, number_at}
 use Rattle.number.specs.Laws.{Ends}
@@ -25,9 +25,7 @@ use Rattle.machine.specs.Store.{same_bytes, is_clean, clean_in}
 use Rattle.derived.specs.Derived as derived
 use Rattle.setups.proofs.Reading.{same, no_value, only_there}
 use Rattle.setups.proofs.Records.{same_sound, shown_size}
-use Rattle.store_records.specs.declared.Place.{Place}
-use Rattle.store_records.specs.declared.Place.TheVariants as place
-use Rattle.store_records.specs.Places.{place_of, after_of}
+use Rattle.store_records.specs.Places.{after_of}
 
 -- ---- any part
 
@@ -36,18 +34,18 @@ pub record There {A : Type 0} (p : Reads A) (s : List ℕ) (at next : ℕ) : Typ
   pub what : A
   pub is : p s at ≡ some (what, next)
 
-module _ {A : Type 0} (p : Reads A) (s : List ℕ) (at : ℕ) (r : Place) (e : place_of r ≡ after_of (p s at)) where
-  pub place_good : {n : ℕ} → r ≡ place.At n → There p s at n
+module _ {A : Type 0} (p : Reads A) (s : List ℕ) (at : ℕ) where
+  pub place_good : {n : ℕ} → some n ≡ after_of (p s at) → There p s at n
   unfolding after_of
-  place_good {n} g = go (p s at) refl (ap place_of (sym g) ∙ e)
+  place_good {n} = go (p s at) refl
     where
       go : (o : Option (A × ℕ)) → p s at ≡ o → some n ≡ after_of o → There p s at n
       go none q h = no_value (sym h)
       go (some x) q h = record { what = x.0; is = q ∙ ap (λ (k : ℕ). some (x.0, k)) (sym (same h)) }
 
-  pub place_bad : r ≡ place.Bad → p s at ≡ none
+  pub place_bad : none ≡ after_of (p s at) → p s at ≡ none
   unfolding after_of
-  place_bad g = go (p s at) (ap place_of (sym g) ∙ e)
+  place_bad = go (p s at)
     where
       go : (o : Option (A × ℕ)) → none ≡ after_of o → o ≡ none
       go none h = refl
@@ -65,24 +63,25 @@ module _ (s : List ℕ) (at : ℕ) where
     where
       go : (o : Option Found) → number_in (drop at s) ≡ o → map pair_at o ≡ some (v, n) → Ends s at v n
       go none q h = no_value h
-      go (some f) q h = read_ends s at v n (ap (answer at) q ∙ ap (λ p. Value p.0 p.1) (same h))
+      go (some f) q h = read_ends s at v n (ap (answer at) q ∙ ap (λ p. std.Some (record { value = p.0; next = p.1 })) (same h))
 
-  module _ (r : Number) (e : r ≡ number_at s at) where
-    pub number_good : {v n : ℕ} → r ≡ Value v n → number s at ≡ some (v, n)
-    unfolding number_at answer number
-    number_good {v} {n} g = go (number_in (drop at s)) (sym e ∙ g)
-      where
-        go : (o : Option Found) → answer at o ≡ Value v n → map pair_at o ≡ some (v, n)
-        go none h = cc
-        go (some f) h = cc
+  pub number_good : {f : Number} → std.Some f ≡ number_at s at → number s at ≡ some (f.value, f.next)
+  unfolding number_at answer number
+  number_good {f} = go (number_in (drop at s))
+    where
+      go : (o : Option Found) → std.Some f ≡ answer at o → map pair_at o ≡ some (f.value, f.next)
+      go none h = cc
+      go (some k) h =
+          let is : ◌≡◌ {A = Number} (record { value = k.value; next = at + k.size }) f = cc in
+          ap (λ (x : Number). some (x.value, x.next)) is
 
-    pub number_bad : r ≡ Bad → number s at ≡ none
-    unfolding number_at answer number
-    number_bad g = go (number_in (drop at s)) (sym e ∙ g)
-      where
-        go : (o : Option Found) → answer at o ≡ Bad → map pair_at o ≡ none
-        go none h = refl
-        go (some f) h = cc
+  pub number_bad : std.None ≡ number_at s at → number s at ≡ none
+  unfolding number_at answer number
+  number_bad = go (number_in (drop at s))
+    where
+      go : (o : Option Found) → std.None ≡ answer at o → map pair_at o ≡ none
+      go none h = refl
+      go (some f) h = cc
 
 -- ---- a clean record
 
@@ -147,9 +146,8 @@ module _ (s : List ℕ) (at : ℕ) where
             inside = omega arith;
           }
 
-module _ (s : List ℕ) (at : ℕ) (r : Place) (e : place_of r ≡ after_of (clean_in s at)) where
-  pub clean_good : {n : ℕ} → r ≡ place.At n → CleanAt s at n
-  clean_good g = clean_there s at (place_good clean_in s at r e g).is
+pub clean_good : {s : List ℕ} {at n : ℕ} → some n ≡ after_of (clean_in s at) → CleanAt s at n
+clean_good {s} {at} e = clean_there s at (place_good clean_in s at e).is
 
 -- it is as long as a record
 pub clean_long : {s : List ℕ} {at n : ℕ} → CleanAt s at n → record_size ≤ length (part s at n)

@@ -7,15 +7,7 @@ ghost use Rattle.machine.specs.Store.{is_clean, clean_in};
 ghost use Rattle.machine.specs.Channel.{filter_in, periodic_in};
 ghost use Rattle.store_records.specs.Places.{place_of, after_of};
 
-use number::Number;
 use places::RECORD;
-
-// The place after a part of a store, or that the part is bad.
-#[derive(Drop)]
-pub enum Place {
-    At { next: usize },
-    Bad,
-}
 
 // The most data bytes of a record, and an interval in milliseconds.
 const MOST_DATA: u32 = places::ROW as u32;
@@ -37,74 +29,53 @@ fn is_clean(m: &[u8]) -> bool
     map_bands::same(m, &cell)
 }
 
-// The place after a clean record.
-pub fn clean_end(store: &[u8], at: usize) -> Place
+// The place after a clean record, none where the bytes there are none.
+pub fn clean_end(store: &[u8], at: usize) -> Option<usize>
     requires { at ≤ length store.now }
     ensures { place_of result ≡ after_of (clean_in store.now at) }
 {
     if store.len() - at < RECORD {
-        return Place::Bad;
+        return None;
     }
     let next = at + RECORD;
     if !is_clean(&store[at..next]) {
-        return Place::Bad;
+        return None;
     }
-    Place::At { next }
+    Some(next)
 }
 
-// The place after a filter that a channel just connected with these flags would start.
-pub fn filter_end(store: &[u8], at: usize, flags: u32) -> Place
+// The place after a filter that a channel just connected with these flags would start, else none.
+pub fn filter_end(store: &[u8], at: usize, flags: u32) -> Option<usize>
     ensures { place_of result ≡ after_of (filter_in flags store.now at) }
 {
-    let Number::Value {
-        value: kind,
-        next: mask,
-    } = number::number_at(store, at)
-    else {
-        return Place::Bad;
-    };
-    let Place::At { next: pattern } = clean_end(store, mask) else {
-        return Place::Bad;
-    };
-    let Place::At { next } = clean_end(store, pattern) else {
-        return Place::Bad;
-    };
-    let code = filtercheck::start_code(
+    let kind = number::number_at(store, at)?;
+    let mask = kind.next;
+    let pattern = clean_end(store, mask)?;
+    let next = clean_end(store, pattern)?;
+    filtercheck::start_code(
         flags,
-        kind,
+        kind.value,
         &store[mask..pattern],
         &store[pattern..next],
         0,
-    );
-    if code != codes::STATUS_NOERROR {
-        return Place::Bad;
-    }
-    Place::At { next }
+    )
+    .ok()?;
+    Some(next)
 }
 
-// The place after a periodic that a channel just connected with these flags would start; a listener starts none.
-pub fn periodic_end(store: &[u8], at: usize, flags: u32) -> Place
+// The place after a periodic that a channel just connected with these flags would start, else none; a listener starts none.
+pub fn periodic_end(store: &[u8], at: usize, flags: u32) -> Option<usize>
     requires { at ≤ length store.now }
     ensures { place_of result ≡ after_of (periodic_in flags store.now at) }
 {
-    let Place::At { next: end } = clean_end(store, at) else {
-        return Place::Bad;
-    };
-    let Number::Value {
-        value: interval,
-        next,
-    } = number::number_at(store, end)
-    else {
-        return Place::Bad;
-    };
-    if !filtercheck::between(LEAST_INTERVAL, MOST_INTERVAL, interval) {
-        return Place::Bad;
+    let end = clean_end(store, at)?;
+    let interval = number::number_at(store, end)?;
+    if !filtercheck::between(LEAST_INTERVAL, MOST_INTERVAL, interval.value) {
+        return None;
     }
-    if message::message_code(&store[at..end], flags) != codes::STATUS_NOERROR {
-        return Place::Bad;
-    }
+    message::message_code(&store[at..end], flags).ok()?;
     if can::listens(flags) {
-        return Place::Bad;
+        return None;
     }
-    Place::At { next }
+    Some(interval.next)
 }

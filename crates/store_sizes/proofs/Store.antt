@@ -14,7 +14,6 @@ use Rattle.machine.specs.Filter.{Slots, Filter}
 use Rattle.machine.specs.Store.{slots_bytes, filter_bytes, periodic_bytes, body_bytes, store_bytes}
 use Rattle.machine.specs.Channel.{Periodic, saved_of, setup_of}
 use Rattle.layout.specs.Sizes.{flags_at, rate_at, loopback_at, filters_at, filters_size}
-use Rattle.layout.specs.Memory.{periodics}
 use Rattle.layout.specs.Promise.{Opened}
 use Rattle.layout.proofs.Places.{fl}
 use Rattle.layout.proofs.Region.{open_of, word_of, mark_of_law, flags_part, rate_part, loopback_part}

@@ -1,6 +1,6 @@
 -- The store of ten places, one place after the other: of a place and the places behind it. Assumes nothing.
 use Rattle.std.specs.Prelude.{if◌then◌else◌}
-use Prim.Native.Nat.{ℕ, suc, ◌+◌, ◌*◌, ◌≤◌, ◌<◌}
+use Prim.Native.Nat.{ℕ, suc, ◌+◌, ◌≤◌, ◌<◌}
 use native.Mathlib.Numerals.{add-one}
 use native.Mathlib.Omega.{arith}
 use mathlib.Core.Path.{◌≡◌, refl, sym, ap, ◌∙◌}
@@ -11,7 +11,6 @@ use mathlib.Core.List.{List, [], ◌∷◌, ◌++◌, append_assoc}
 use lib.ListN.{length, get_or, drop, length-append, drop_of_length-le}
 use lib.Seq.{drop-cons}
 use Rattle.number.specs.Number.{bytes_of}
-use Rattle.machine.specs.Limits.{most_places}
 use Rattle.machine.specs.Filter.{Slots, taken}
 use Rattle.machine.specs.Store.{numbered, each_bytes}
 use Rattle.store_sizes.specs.Entries.{entry_of, entries_from, taken_from}
@@ -62,24 +61,6 @@ module _ {A : Type 0} where
 
       pub entries_longer : i < length s → length (entries_from w i s) ≡ length (entry_of w i (get_or s i none)) + length (entries_from w (i + 1) s)
       entries_longer h = ap length (entries_turn h) ∙ length-append (entry_of w i (get_or s i none)) (entries_from w (i + 1) s)
-
--- ---- a sum over the ten places, each of at most 100: what is summed up before place i, and what is left
-
-pub record Summed (left : ℕ → ℕ) (sum i : ℕ) : Type 0 where
-  pub few : i ≤ most_places
-  pub small : sum ≤ 100 * i
-  pub is : left 0 ≡ sum + left i
-
-module _ (left : ℕ → ℕ) where
-  pub sum_none : Summed left 0 0
-  sum_none = record { few = omega arith; small = omega arith; is = omega arith }
-
-  module _ {sum i : ℕ} (s : Summed left sum i) where
-    pub sum_more : i < most_places → (x : ℕ) → x ≤ 100 → left i ≡ x + left (i + 1) → Summed left (sum + x) (i + 1)
-    sum_more h x b e = record { few = omega arith; small = omega (arith, s.small); is = omega (arith, s.is) }
-
-    pub sum_all : most_places ≤ i → left most_places ≡ 0 → sum ≡ left 0
-    sum_all h e = let z : i ≡ most_places = omega (arith, s.few) in omega (arith, s.is, ap left z)
 
 -- a test as a number
 pub test_small : (b : Bool) → bool_byte b ≤ 1

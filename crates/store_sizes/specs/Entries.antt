@@ -1,7 +1,8 @@
 -- The store of a channel as code works through it: place by place, in the parts of the channel's region. Assumes nothing.
-use Rattle.std.specs.Prelude.{ℕ, suc, List, [], ◌++◌, map, length, drop}
+use Rattle.std.specs.Prelude.{ℕ, suc, ◌+◌, ◌≤◌, ◌<◌, ◌≡◌, List, [], ◌++◌, map, length, drop}
 use Rattle.std.proofs.Math.Option.{Option, none, some}
 use Rattle.number.specs.Number.{bytes_of}
+use Rattle.machine.specs.Limits.{most_places}
 use Rattle.machine.specs.Message.{Rec}
 use Rattle.machine.specs.Filter.{Slots, Filter}
 use Rattle.machine.specs.Store.{numbered, each_bytes, store_bytes}
@@ -20,6 +21,16 @@ entries_from w i s = each_bytes w (numbered (suc i) (drop i s))
 
 unfoldable pub taken_from : {A : Type 0} → ℕ → Slots A → ℕ
 taken_from i s = length (numbered (suc i) (drop i s))
+
+-- ---- a sum over the ten places
+
+-- what is found is at most 100
+abbrev pub Small : (ℕ → Type 0) → Type 0
+Small found = (x : ℕ) → found x → x ≤ 100
+
+-- all that is found from the first place on: what is left at each place is what is found there, and what is left at the next
+abbrev pub Sums : (ℕ → ℕ → Type 0) → ℕ → Type 0
+Sums found sum = (left : ℕ → ℕ) → ((i x : ℕ) → i < most_places → found i x → left i ≡ x + left (i + 1)) → left most_places ≡ 0 → sum ≡ left 0
 
 -- ---- of the parts of a region: what they hold does not depend on the flags
 

@@ -1,14 +1,14 @@
 // The length of the store of a channel, worked out from the parts of its region, and how many entries it has.
 #![tactic(auto)]
 
-ghost use Rattle.std.specs.Prelude.{◌≡◌, ◌<◌, length, get_or};
+ghost use Rattle.std.specs.Prelude.{ℕ, ◌≡◌, ◌<◌, length, get_or};
 ghost use Rattle.std.proofs.Math.Option.{none};
 ghost use Rattle.machine.specs.Limits.{most_places};
 ghost use Rattle.machine.specs.Store.{periodic_bytes};
 ghost use Rattle.layout.specs.Promise.{Opened};
 ghost use Rattle.filterbank.specs.Part.{FilterPart};
 ghost use Rattle.stores.specs.Periodics.{PeriodicPart};
-ghost use Rattle.store_sizes.specs.Entries.{entry_of, entries_from, taken_from, filters_of, periodics_of, store_of};
+ghost use Rattle.store_sizes.specs.Entries.{Small, Sums, entry_of, entries_from, taken_from, filters_of, periodics_of, store_of};
 
 use places::{NUMBER, PLACES, RECORD};
 
@@ -20,18 +20,24 @@ const PERIODIC_SIZE: usize = 1 + RECORD;
 // The bytes of a store besides its entries, its flags and its rate: the version, two counts and the loopback mark, a byte each.
 const OTHERS: usize = 4;
 
+// What the ten places come to together, each of them what `of` finds for it, at most 100.
+fn sum<F: Fn(usize) -> usize>(of: F) -> usize
+    requires { (i : ℕ) → i < most_places → F.pre of i × Small (F.post of i) }
+    ensures { Sums (F.post of) result }
+{
+    let mut sum = 0;
+    for i in 0..PLACES {
+        sum += of(i);
+    }
+    sum
+}
+
 // How many filters a channel has.
 pub fn filter_count(part: &[u8]) -> u32
     requires { FilterPart part.now }
     ensures { result ≡ taken_from 0 (filters_of part.now) }
 {
-    let mut count: u32 = 0;
-    let mut i = 0;
-    while i < PLACES {
-        count += (part[i] != 0) as u32;
-        i += 1;
-    }
-    count
+    sum(|i| (part[i] != 0) as usize) as u32
 }
 
 // How many periodics it has.
@@ -39,13 +45,7 @@ pub fn periodic_count(part: &[u8]) -> u32
     requires { PeriodicPart part.now }
     ensures { result ≡ taken_from 0 (periodics_of part.now) }
 {
-    let mut count: u32 = 0;
-    let mut i = 0;
-    while i < PLACES {
-        count += (integers::word_at(part, i * NUMBER) != 0) as u32;
-        i += 1;
-    }
-    count
+    sum(|i| (integers::word_at(part, i * NUMBER) != 0) as usize) as u32
 }
 
 // How many bytes the periodic of a place takes; none where it is empty.
@@ -65,13 +65,7 @@ fn periodics_size(part: &[u8]) -> usize
     requires { PeriodicPart part.now }
     ensures { result ≡ length (entries_from periodic_bytes 0 (periodics_of part.now)) }
 {
-    let mut size = 0;
-    let mut i = 0;
-    while i < PLACES {
-        size += periodic_size(part, i);
-        i += 1;
-    }
-    size
+    sum(|i| periodic_size(part, i))
 }
 
 // How many bytes the store of an open channel takes.

@@ -7,42 +7,30 @@ use places::{DATA_IN, RECORD};
 use std::io;
 use trace_words::{byte_at, bytes, hex, number, part, text};
 
-// A number of a store, and the place after it.
-#[derive(Drop)]
-struct Piece {
-    value: u32,
-    next: usize,
-}
-
-// The item of a number that was read: 0 at the end of the store where there is none.
-fn item(store: &[u8], read: Number) -> Piece {
-    match read {
-        Number::Value { value, next } => Piece { value, next },
-        Number::Bad => Piece {
-            value: 0,
-            next: store.len(),
-        },
+// What stands for a number that is not there: 0, up to the end of the store.
+fn missing(store: &[u8]) -> Number {
+    Number {
+        value: 0,
+        next: store.len(),
     }
 }
 
 // The number at a place.
-fn item_at(store: &[u8], at: usize) -> Piece {
-    item(store, number::number_at(store, at))
+fn item_at(store: &[u8], at: usize) -> Number {
+    number::number_at(store, at).unwrap_or(missing(store))
 }
 
 // How many filters or periodics there are, at the place where that is said.
-fn count_at(store: &[u8], at: usize) -> Piece {
-    item(
-        store,
-        store_check::number_within(store, at, 0, places::PLACES as u32),
-    )
+fn count_at(store: &[u8], at: usize) -> Number {
+    let most = places::PLACES as u32;
+    store_check::number_within(store, at, 0, most).unwrap_or(missing(store))
 }
 
 // The flags of a store, and the place where its filters begin. Version 1 has none: they are 0.
-fn flags_item(store: &[u8]) -> Piece {
+fn flags_item(store: &[u8]) -> Number {
     let version = item_at(store, 0);
     if version.value == 1 {
-        return Piece {
+        return Number {
             value: 0,
             next: version.next,
         };
@@ -105,38 +93,45 @@ fn kind(out: &impl Print, n: u32) -> io::Result<()> {
     }
 }
 
-// The line of the filter at a place, where it is to be told; the place after it.
-fn filter(out: &impl Print, store: &[u8], at: usize, told: bool) -> io::Result<usize> {
-    let n = item_at(store, at);
-    let does = item_at(store, n.next);
-    let pattern = after_record(store, does.next);
-    if told {
-        let mask = record_at(store, does.next);
-        number(out, b"\n  ", n.value)?;
-        kind(out, does.value)?;
-        width(out, mask)?;
-        text(out, b", mask")?;
-        bytes(out, data(mask, DATA_IN))?;
-        text(out, b", pattern")?;
-        bytes(out, data(record_at(store, pattern), DATA_IN))?;
-    }
-    Ok(after_record(store, pattern))
+// The place after the filter at a place: behind its number, its type, its mask and its pattern.
+fn filter_end(store: &[u8], at: usize) -> usize {
+    let does = item_at(store, item_at(store, at).next);
+    after_record(store, after_record(store, does.next))
 }
 
-// The line of the periodic at a place, where it is to be told; the place after it.
-fn periodic(out: &impl Print, store: &[u8], at: usize, told: bool) -> io::Result<usize> {
+// The line of the filter at a place; the place after it.
+fn filter(out: &impl Print, store: &[u8], at: usize) -> io::Result<usize> {
     let n = item_at(store, at);
-    let interval = item_at(store, after_record(store, n.next));
-    if told {
-        let record = record_at(store, n.next);
-        number(out, b"\n  ", n.value)?;
-        number(out, b": every ", interval.value)?;
-        text(out, b" ms")?;
-        width(out, record)?;
-        hex(out, b", identifier 0x", identifier(data(record, DATA_IN)))?;
-        text(out, b", data")?;
-        bytes(out, data(record, DATA_IN + 4))?;
-    }
+    let does = item_at(store, n.next);
+    let mask = record_at(store, does.next);
+    let pattern = record_at(store, after_record(store, does.next));
+    number(out, b"\n  ", n.value)?;
+    kind(out, does.value)?;
+    width(out, mask)?;
+    text(out, b", mask")?;
+    bytes(out, data(mask, DATA_IN))?;
+    text(out, b", pattern")?;
+    bytes(out, data(pattern, DATA_IN))?;
+    Ok(filter_end(store, at))
+}
+
+// The interval of the periodic at a place, and the place after it: behind its number and its record.
+fn interval_at(store: &[u8], at: usize) -> Number {
+    item_at(store, after_record(store, item_at(store, at).next))
+}
+
+// The line of the periodic at a place; the place after it.
+fn periodic(out: &impl Print, store: &[u8], at: usize) -> io::Result<usize> {
+    let n = item_at(store, at);
+    let interval = interval_at(store, at);
+    let record = record_at(store, n.next);
+    number(out, b"\n  ", n.value)?;
+    number(out, b": every ", interval.value)?;
+    text(out, b" ms")?;
+    width(out, record)?;
+    hex(out, b", identifier 0x", identifier(data(record, DATA_IN)))?;
+    text(out, b", data")?;
+    bytes(out, data(record, DATA_IN + 4))?;
     Ok(interval.next)
 }
 
@@ -150,32 +145,33 @@ fn many(out: &impl Print, n: u32, name: &[u8]) -> io::Result<()> {
     Ok(())
 }
 
-// The filters at a place, how many and each on its line, where they are to be told; the place after them.
-fn filters(out: &impl Print, store: &[u8], at: usize, told: bool) -> io::Result<usize> {
+// The place after the filters, or the periodics, at a place; `end` finds where one ends.
+fn entries_end<F: Fn(usize) -> usize>(store: &[u8], at: usize, end: F) -> usize
+    requires { F.IsAlwaysCallable end }
+{
     let count = count_at(store, at);
-    if told {
-        many(out, count.value, b" filter")?;
-    }
     let mut place = count.next;
-    let mut left = count.value;
-    while left > 0 {
-        place = filter(out, store, place, told)?;
-        left -= 1;
+    for _ in 0..count.value {
+        place = end(place);
     }
-    Ok(place)
+    place
 }
 
-// The periodics at a place, as the filters.
-fn periodics(out: &impl Print, store: &[u8], at: usize, told: bool) -> io::Result<usize> {
+// The filters, or the periodics, at a place: how many, and each on its line, which `line` tells; the place after them.
+fn entries<F: Fn(usize) -> io::Result<usize>>(
+    out: &impl Print,
+    store: &[u8],
+    at: usize,
+    name: &[u8],
+    line: F,
+) -> io::Result<usize>
+    requires { F.IsAlwaysCallable line }
+{
     let count = count_at(store, at);
-    if told {
-        many(out, count.value, b" periodic")?;
-    }
+    many(out, count.value, name)?;
     let mut place = count.next;
-    let mut left = count.value;
-    while left > 0 {
-        place = periodic(out, store, place, told)?;
-        left -= 1;
+    for _ in 0..count.value {
+        place = line(place)?;
     }
     Ok(place)
 }
@@ -183,8 +179,9 @@ fn periodics(out: &impl Print, store: &[u8], at: usize, told: bool) -> io::Resul
 // The first line: version, flags, and the rate and loopback, which stand behind the filters and periodics.
 fn head(out: &impl Print, store: &[u8]) -> io::Result<()> {
     let flags = flags_item(store);
-    let after = filters(out, store, flags.next, false)?;
-    let rate = item_at(store, periodics(out, store, after, false)?);
+    let periodics = entries_end(store, flags.next, |at| filter_end(store, at));
+    let config = entries_end(store, periodics, |at| interval_at(store, at).next);
+    let rate = item_at(store, config);
     number(out, b"version ", item_at(store, 0).value)?;
     trace_words::flags(out, flags.value)?;
     number(out, b", ", rate.value)?;
@@ -194,7 +191,14 @@ fn head(out: &impl Print, store: &[u8]) -> io::Result<()> {
 // A store: its first line, its filters and its periodics. The end of the last line is left to the caller.
 pub fn words(out: &impl Print, store: &[u8]) -> io::Result<()> {
     head(out, store)?;
-    let after = filters(out, store, flags_item(store).next, true)?;
-    periodics(out, store, after, true)?;
+    let filters = flags_item(store).next;
+    let periodics = entries(out, store, filters, b" filter", |at| filter(out, store, at))?;
+    entries(
+        out,
+        store,
+        periodics,
+        b" periodic",
+        |at| periodic(out, store, at),
+    )?;
     Ok(())
 }

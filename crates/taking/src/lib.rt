@@ -2,10 +2,13 @@
 #![tactic(auto)]
 
 ghost use Rattle.std.specs.Prelude.{◌≡◌, List, ◌∷◌, ℕ, ◌≤◌, length, get_or};
+ghost use Rattle.codes.specs.Code.{code_of};
 ghost use Rattle.machine.specs.Limits.{record_size};
 ghost use Rattle.machine.specs.Channel.{take_next};
 ghost use Rattle.layout.specs.Sizes.{flight_at, flight_size};
 ghost use Rattle.layout.specs.Promise.{gives, Opened, call_outcome};
+
+use codes::Refusal;
 
 // Where in a region the record in flight begins, behind its mark.
 const FLYING: usize = places::FLIGHT + 1;
@@ -30,15 +33,15 @@ fn launch(flight: &mut [u8], m: &[u8])
 }
 
 // Take, where nothing is in flight: the chosen record goes in flight and to the buffer.
-fn take_next(r: &mut [u8], buffer: &mut [u8]) -> u32
+fn take_next(r: &mut [u8], buffer: &mut [u8]) -> Result<(), Refusal>
     requires { Opened r.old × (get_or r.old flight_at 0 ≡ 0) × (record_size ≤ length buffer.old) }
-    ensures { (rates : List ℕ) (t : ℕ) → gives result 0 buffer.new r.new ≡ call_outcome rates t r.old (take_next buffer.old) }
+    ensures { (rates : List ℕ) (t : ℕ) → gives (code_of result) 0 buffer.new r.new ≡ call_outcome rates t r.old (take_next buffer.old) }
 {
     let i = pending::first_pending(&r[places::PERIODICS..places::WRITTEN]);
     let mut telegram = [0u8; places::RECORD];
     let there = offering::offer(r, i, &mut telegram);
     if (i >= places::PLACES) & !there & (r[places::WRITTEN] == 0) {
-        return codes::ERR_BUFFER_EMPTY;
+        return Err(Refusal::BufferEmpty);
     }
     copy_record(
         &mut buffer[0..places::RECORD],
@@ -55,16 +58,16 @@ fn take_next(r: &mut [u8], buffer: &mut [u8]) -> u32
         &mut r[places::FLIGHT..places::RECEIVING],
         &buffer[0..places::RECORD],
     );
-    codes::STATUS_NOERROR
+    Ok(())
 }
 
 // Take: the record in flight, or the chosen one, which then is in flight.
-pub fn take(r: &mut [u8], buffer: &mut [u8]) -> u32
+pub fn take(r: &mut [u8], buffer: &mut [u8]) -> Result<(), Refusal>
     requires { Opened r.old }
-    ensures { (rates : List ℕ) (t : ℕ) → gives result 0 buffer.new r.new ≡ call_outcome rates t r.old (take_next buffer.old) }
+    ensures { (rates : List ℕ) (t : ℕ) → gives (code_of result) 0 buffer.new r.new ≡ call_outcome rates t r.old (take_next buffer.old) }
 {
     if buffer.len() < places::RECORD {
-        return codes::ERR_NULL_PARAMETER;
+        return Err(Refusal::NullParameter);
     }
     if r[places::FLIGHT] == 0 {
         return take_next(r, buffer);
@@ -73,5 +76,5 @@ pub fn take(r: &mut [u8], buffer: &mut [u8]) -> u32
         &mut buffer[0..places::RECORD],
         &r[FLYING..places::RECEIVING],
     );
-    codes::STATUS_NOERROR
+    Ok(())
 }

@@ -1,12 +1,13 @@
 -- The checks of a start grouped by their codes, and what stands in a conversation's place. Assumes nothing.
 use Rattle.std.specs.Prelude.{if◌then◌else◌}
+use Rattle.std.specs.Int.{from_bool}
 use mathlib.Core.Path.{◌≡◌, refl, sym, ap, ap₂, ◌∙◌}
-use Prim.Native.Nat.{ℕ, zero, suc, ◌+◌, ◌/◌, ◌%◌}
+use Prim.Native.Nat.{ℕ, zero, suc}
 use native.Mathlib.Omega.{arith}
 use mathlib.Core.Bool.{Bool, true, false, not, ◌&&◌, ◌||◌, beq}
 use mathlib.Core.Option.{some}
 use mathlib.Core.List.{List, [], ◌∷◌}
-use lib.ListN.{length, get_or, set, take, drop}
+use lib.ListN.{get_or, set, take, drop}
 use lib.Seq.{drop-drop, get_or-take, get_or-drop}
 use lib.Dec.{eqb, ltb}
 use borrow.Author.Tests.{eq-eqb, ne_eqb}
@@ -140,6 +141,11 @@ module _ (flags : ℕ) (t : List ℕ) (w : Bool) (p f : ℕ) where
   unfolding slot
   taken_knows n a b ea eb =
       (λ i. same (sym wide_at i) ((ea ∙ sym pattern_at_law) i) ((eb ∙ sym flow_at) i)) ∙ sym (some_is (get_or t 0 0) n ∙ knows_is ((talk_cell flags).get (drop 1 t)))
+
+-- the byte of a mark
+pub marked : (b : Bool) → from_bool b ≡ mark_of b
+marked true = refl
+marked false = refl
 
 -- a fresh conversation over zeros
 fresh_stored : (flags : ℕ) (w : Bool) (p f : ℕ)

@@ -2,9 +2,10 @@
 #![tactic(auto)]
 
 ghost use Rattle.std.specs.Prelude.{◌≡◌, [], ◌∷◌, ℕ, ◌≤◌, length};
+ghost use Rattle.codes.specs.Code.{code_of as code};
 ghost use Rattle.std.proofs.Math.Option.{some};
 ghost use Rattle.codec.specs.Plain.{zeros};
-ghost use Rattle.codec.specs.Code.{mark_of, slot};
+ghost use Rattle.codec.specs.Code.{slot};
 ghost use Rattle.machine.specs.Codes.{code_of};
 ghost use Rattle.machine.specs.Limits.{record_size};
 ghost use Rattle.machine.specs.Filter.{any_slot};
@@ -13,6 +14,7 @@ ghost use Rattle.iso_layout.specs.Sizes.{talk_size};
 ghost use Rattle.iso_layout.specs.Region.{talk_cell};
 ghost use Rattle.talk_starts.specs.Starts.{naming_of, start_tests};
 
+use codes::Refusal;
 use iso_places::{FLOW_IN, PATTERN_IN, TRANSFER_IN};
 
 // The one type of filter, the identifier size, and the mask that asks for the whole identifier.
@@ -46,17 +48,17 @@ pub fn names(m: &[u8]) -> Naming
     }
 }
 
-// The code of a start by what its mask, pattern and flow records say, on a connection of these flags.
-pub fn start_code(flags: u32, kind: u32, m: Naming, p: Naming, f: Naming) -> u32
-    ensures { result ≡ code_of (start_tests flags kind m p f) }
+// The checks of a start by what its mask, pattern and flow records say, on a connection of these flags.
+pub fn start_code(flags: u32, kind: u32, m: Naming, p: Naming, f: Naming) -> Result<(), Refusal>
+    ensures { code result ≡ code_of (start_tests flags kind m p f) }
 {
     if kind != FLOW_CONTROL {
-        return codes::ERR_INVALID_FILTER_ID;
+        return Err(Refusal::InvalidFilterId);
     }
     let other = (m.protocol != iso_records::PROTOCOL)
         | ((p.protocol != iso_records::PROTOCOL) | (f.protocol != iso_records::PROTOCOL));
     if other {
-        return codes::ERR_MSG_PROTOCOL_ID;
+        return Err(Refusal::MsgProtocolId);
     }
     let wide = m.tx / 0x100 % 2 == 1;
     let limit = can::id_limit(wide);
@@ -64,9 +66,9 @@ pub fn start_code(flags: u32, kind: u32, m: Naming, p: Naming, f: Naming) -> u32
     let strange = !((m.tx == p.tx) & (m.tx == f.tx)) | (!can::takes_width(flags, wide) | out);
     let sized = (m.size == ID_SIZE) & (p.size == ID_SIZE) & (f.size == ID_SIZE);
     if !sized | (!(m.id == WHOLE) | strange) {
-        return codes::ERR_INVALID_MSG;
+        return Err(Refusal::InvalidMsg);
     }
-    codes::STATUS_NOERROR
+    Ok(())
 }
 
 // Is the pattern or the flow an identifier of the conversation at a place, of the same width?
@@ -82,21 +84,13 @@ pub fn is_known(t: &[u8], wide: bool, pattern: u32, flow: u32) -> bool
     (wide == (1 == t[WIDTH])) & (((pattern == a) | (pattern == b)) | ((flow == a) | (flow == b)))
 }
 
-// The byte of a mark.
-fn mark(on: bool) -> u8
-    ensures { result ≡ mark_of on }
-{
-    if on { 1 } else { 0 }
-}
-
 // A fresh conversation over a free place.
 pub fn put_talk(t: &mut [u8], wide: bool, pattern: u32, flow: u32)
     requires { (length t.old ≡ talk_size) × (t.old ≡ zeros talk_size) }
     ensures { (flags : ℕ) → t.new ≡ (slot (talk_cell flags)).put (some (record { wide = wide; pattern = pattern; flow = flow; transfer = idle })) }
 {
-    let width = mark(wide);
     integers::put_word(&mut t[PATTERN_IN..FLOW_IN], pattern);
     integers::put_word(&mut t[FLOW_IN..TRANSFER_IN], flow);
     t[0] = 1;
-    t[WIDTH] = width;
+    t[WIDTH] = u8::from(wide);
 }

@@ -11,11 +11,12 @@ use Rattle.telegram_types.specs.declared.Opening.TheVariants.{SetUp, Positive, N
 use Rattle.telegram_types.specs.declared.OnChannel.TheVariants.{Data, Acknowledge, Connection, Test, Break, Disconnect}
 use Rattle.telegram_types.specs.declared.Telegram.{Telegram}
 use Rattle.telegram_types.specs.declared.Telegram.TheVariants.{Opening as opens, Channel as travels}
-use Rattle.telegram_types.specs.declared.Taken.TheVariants.{Yes, No}
+use Rattle.std.specs.Prelude.{Result, Ok, Err}
+use Rattle.codes.specs.declared.Refusal.{Refusal}
 use Rattle.telegram_types.specs.declared.Answer.{Answer}
 use Rattle.telegram_types.specs.declared.Numbers.{Numbers}
 use Rattle.telegram_types.specs.declared.Named.{Named}
-use Rattle.telegram_types.specs.Face.{told, taken_said, numbers_of, naming, Told, answering, padded, over, said, opening_said, channel_said, carried_by}
+use Rattle.telegram_types.specs.Face.{told, numbers_of, naming, Told, answering, padded, over, said, opening_said, channel_said, carried_by}
 
 -- with no bytes beside it a telegram carries none
 pub carries_none : (t : Telegram) → carried_by (said t []) ≡ []
@@ -57,27 +58,25 @@ pub answers : {A : Type 0} (f : A → AnyTelegram) {o p : Option A} → p ≡ o 
 answers f e = ap (λ o. answering (map f o)) (sym e)
 
 -- what was taken is what was read
-pub answered : (a : Answer) (x : Option AnyTelegram) → told a ≡ answering x → taken_said a.taken (take a.len a.payload) ≡ x
+pub answered : (a : Answer) (x : Option AnyTelegram) → told (Ok a) ≡ answering x → some (said a.telegram (take a.len a.payload)) ≡ x
 unfolding told answering
 answered a none e = ap (λ (t : Told). t.telegram) e
 answered a (some t) e = ap (λ (t : Told). t.telegram) e
 
-pub unanswered : (a : Answer) (x : Option AnyTelegram) → told a ≡ answering x → a.taken ≡ No → none ≡ x
-unfolding taken_said
-unanswered a x e y = sym (ap (λ t. taken_said t (take a.len a.payload)) y) ∙ answered a x e
+pub unanswered : (refusal : Refusal) (x : Option AnyTelegram) → told (Err refusal) ≡ answering x → none ≡ x
+unfolding told answering
+unanswered refusal none e = refl
+unanswered refusal (some t) e = ap (λ (u : Told). u.telegram) e
 
 -- and the numbers of what was taken are those of what was read
-pub named : (a : Answer) (x : Option AnyTelegram) (t : Telegram) (n : Numbers) → told a ≡ answering x → a.taken ≡ Yes t
-    → ((bytes : List ℕ) → n ≡ numbers_of (said t bytes))
-    → ◌≡◌ {A = Named} (record { code = 0x00; kind = n.kind; fields = n.fields; payload = a.payload; len = a.len }) (naming x)
-unfolding told answering taken_said naming
-named a none t n e y h =
+pub named : (a : Answer) (x : Option AnyTelegram) (n : Numbers) → told (Ok a) ≡ answering x → ((bytes : List ℕ) → n ≡ numbers_of (said a.telegram bytes))
+    → ◌≡◌ {A = Result Named Refusal} (Ok (record { kind = n.kind; fields = n.fields; payload = a.payload; len = a.len })) (naming x)
+unfolding told answering naming
+named a none n e h =
+    absurd (some-ne-none _ (answered a none e))
+named a (some u) n e h =
     let bytes = take a.len a.payload in
-    let q : ◌≡◌ {A = Option AnyTelegram} (some (said t bytes)) none = sym (ap (λ x. taken_said x bytes) y) ∙ answered a none e in
-    absurd (some-ne-none _ q)
-named a (some u) t n e y h =
-    let bytes = take a.len a.payload in
-    let q : ◌≡◌ {A = Option AnyTelegram} (some (said t bytes)) (some u) = sym (ap (λ x. taken_said x bytes) y) ∙ answered a (some u) e in
+    let q : said a.telegram bytes ≡ u = some-injective _ _ (answered a (some u) e) in
     let p = ap (λ (x : Told). x.payload) e in
     let l = ap (λ (x : Told). x.len) e in
-    rw (h bytes, some-injective _ _ q, p, l)
+    rw (h bytes, q, p, l)

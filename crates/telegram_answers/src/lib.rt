@@ -6,35 +6,29 @@ ghost use Rattle.std.proofs.Math.Option.{none, some};
 ghost use Rattle.telegram.specs.Bits.{only_if};
 ghost use Rattle.telegram_types.specs.Face.{told, answering, said, padded};
 
-use codes::{ERR_INVALID_MSG, STATUS_NOERROR};
-use telegram_types::{Answer, Taken, Telegram};
+use codes::Refusal;
+use telegram_types::{Answer, Telegram};
 
 // No telegram: 0x0A.
-pub fn refused() -> Answer
+pub fn refused() -> Result<Answer, Refusal>
     ensures { told result ≡ answering none }
 {
-    Answer {
-        code: ERR_INVALID_MSG,
-        taken: Taken::No,
-        payload: [0; 7],
-        len: 0,
-    }
+    Err(Refusal::InvalidMsg)
 }
 
 // A telegram that carries no bytes.
-pub fn plain(telegram: Telegram) -> Answer
+pub fn plain(telegram: Telegram) -> Result<Answer, Refusal>
     ensures { told result ≡ answering (some (said telegram [])) }
 {
-    Answer {
-        code: STATUS_NOERROR,
-        taken: Taken::Yes(telegram),
+    Ok(Answer {
+        telegram,
         payload: [0; 7],
         len: 0,
-    }
+    })
 }
 
 // The telegram, which carries no bytes, where the test holds.
-pub fn only_if(test: bool, telegram: Telegram) -> Answer
+pub fn only_if(test: bool, telegram: Telegram) -> Result<Answer, Refusal>
     ensures { told result ≡ answering (only_if test (said telegram [])) }
 {
     if test {

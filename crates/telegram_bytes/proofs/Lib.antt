@@ -1,2 +1,1 @@
-pub mod CopyLoop
 pub mod Writes

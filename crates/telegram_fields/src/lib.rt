@@ -51,5 +51,5 @@ pub fn block_size(n: u8) -> bool
 pub fn bit_value(b: bool) -> u8
     ensures { (result ≡ bit_value b) × (result ≤ 1) }
 {
-    if b { 1 } else { 0 }
+    u8::from(b)
 }

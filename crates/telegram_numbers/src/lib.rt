@@ -7,20 +7,17 @@ ghost use Rattle.telegram_types.specs.Face.{naming, kind_and_fields, numbers_of,
 ghost use Rattle.telegram.specs.Bits.{bit_value};
 ghost use Rattle.telegram.specs.Telegram.{opening as opens, channel as travels};
 
-use codes::ERR_INVALID_MSG;
-use telegram_types::{Named, Numbers, OnChannel, Opening, Telegram};
+use codes::Refusal;
+use telegram_types::{
+    ACKNOWLEDGE, BREAK, CONNECTION, DATA, DISCONNECT, Named, Numbers, OnChannel, Opening, POSITIVE,
+    SET_UP, TEST, Telegram,
+};
 
 // No telegram: 0x0A.
-pub fn nothing() -> Named
+pub fn nothing() -> Result<Named, Refusal>
     ensures { result ≡ naming none }
 {
-    Named {
-        code: ERR_INVALID_MSG,
-        kind: 0,
-        fields: [0; 5],
-        payload: [0; 7],
-        len: 0,
-    }
+    Err(Refusal::InvalidMsg)
 }
 
 // A kind and five fields.
@@ -50,7 +47,7 @@ fn opening(identifier: u32, o: Opening) -> Numbers
             rx_id,
             application,
         } => five(
-            0xC0,
+            SET_UP,
             identifier,
             destination as u32,
             rx_id as u32,
@@ -63,7 +60,7 @@ fn opening(identifier: u32, o: Opening) -> Numbers
             rx_id,
             application,
         } => five(
-            0xD0,
+            POSITIVE,
             identifier,
             destination as u32,
             tx_id as u32,
@@ -86,8 +83,8 @@ fn channel(t: OnChannel) -> Numbers
     ensures { (bytes : List ℕ) → result ≡ numbers_of (travels (channel_said t bytes)) }
 {
     match t {
-        OnChannel::Data { asks, last, sn } => three(0x00, bit(asks), bit(last), sn as u32),
-        OnChannel::Acknowledge { ready, sn } => three(0x90, bit(ready), sn as u32, 0),
+        OnChannel::Data { asks, last, sn } => three(DATA, bit(asks), bit(last), sn as u32),
+        OnChannel::Acknowledge { ready, sn } => three(ACKNOWLEDGE, bit(ready), sn as u32, 0),
         OnChannel::Connection {
             ack,
             block_size,
@@ -96,16 +93,16 @@ fn channel(t: OnChannel) -> Numbers
             t3,
             t4,
         } => five(
-            0xA0 + telegram_fields::bit_value(ack),
+            CONNECTION + telegram_fields::bit_value(ack),
             block_size as u32,
             t1 as u32,
             t2 as u32,
             t3 as u32,
             t4 as u32,
         ),
-        OnChannel::Test => three(0xA3, 0, 0, 0),
-        OnChannel::Break => three(0xA4, 0, 0, 0),
-        OnChannel::Disconnect => three(0xA8, 0, 0, 0),
+        OnChannel::Test => three(TEST, 0, 0, 0),
+        OnChannel::Break => three(BREAK, 0, 0, 0),
+        OnChannel::Disconnect => three(DISCONNECT, 0, 0, 0),
     }
 }
 

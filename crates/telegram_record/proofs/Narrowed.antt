@@ -1,19 +1,22 @@
 -- Laws on narrowing: fields that fit are whole afterwards, and what doesn't fit is refused. Assumes nothing.
-use Prim.Native.Nat.{ℕ, ◌%◌, ◌≤◌, ◌<◌}
-use mathlib.Core.Path.{◌≡◌, refl, sym, ap}
-use mathlib.Core.Bool.{Bool, true, false, ◌&&◌, false≢true}
-use native.Mathlib.Nat.{mod-eq_of_lt}
+use Prim.Native.Nat.{ℕ, ◌≤◌, ◌<◌, ◌^◌}
+use mathlib.Core.Path.{◌≡◌, sym}
+use mathlib.Core.Bool.{true}
+use mathlib.Core.Option.{none, some}
+use mathlib.Core.List.{List}
 use native.Mathlib.Omega.{arith}
 use lib.Dec.{eqb, leb}
 use borrow.Author.Tests.{leb-true, le-leb, eqb-true}
-use Rattle.telegram.specs.Bits.{only_if}
+use Rattle.std.specs.Prelude.{Result, Ok, Err, OkIff}
+use Rattle.std.specs.Result.{result_ok}
+use Rattle.std.proofs.lemmas.Grind.{common_steps}
+use Rattle.std.specs.Prelude as rust
+use Rattle.codec.specs.Word.{word_at}
 use Rattle.telegram.specs.Telegram.{AnyTelegram, is_application, any_fits}
 use Rattle.telegram.proofs.Tests.{either, tested, stopped}
-use Rattle.telegram_record.specs.Record.{kept}
-
--- a number up to k is whole after narrowing to m numbers
-whole : (n k m : ℕ) → k < m → leb n k ≡ true → n % m ≡ n
-whole n k m h e = let l = leb-true n k e in mod-eq_of_lt (omega arith)
+use Rattle.telegram_types.specs.declared.Telegram.{Telegram}
+use Rattle.telegram_types.specs.Face.{taken_said}
+use Rattle.telegram_record.specs.Record.{kept, byte_in}
 
 pub looser : (n j k : ℕ) → j ≤ k → leb n j ≡ true → leb n k ≡ true
 looser n j k h e = let l = leb-true n j e in le-leb n k (omega arith)
@@ -27,17 +30,27 @@ application_small a =
     (either {a = eqb a 0x10} (is_small a 0x10 (omega arith))
     (either {a = eqb a 0x20} (is_small a 0x20 (omega arith)) (is_small a 0x21 (omega arith))))
 
--- t is u where the fields are small, and u fits only where they are
-pub narrowed : (known small : Bool) (t u : AnyTelegram) → (small ≡ true → t ≡ u) → (any_fits u ≡ true → small ≡ true)
-    → kept (only_if (known && small) t) ≡ kept (only_if known u)
-unfolding kept only_if
-narrowed true true t u same enough = ap (λ x. only_if (any_fits x) x) (same refl)
-narrowed true false t u same enough =
-    tested (any_fits u) (λ fit. absurd (false≢true (enough fit))) (λ bad. sym (stopped (any_fits u) u bad))
-narrowed false small t u same enough = refl
+-- a number that was narrowed to so many bits is whole, and one that wasn't has more
+pub whole : {E : Type 0} (k n x : ℕ) (r : Result ℕ E) (o : rust.Option ℕ) → OkIff r (n < 2 ^ k) n → o ≡ result_ok r → o ≡ rust.Some x → x ≡ n
+whole k n x (Ok y) o h e is = grind (arith, common_steps)
+whole k n x (Err y) o h e is = grind (arith, common_steps)
 
-pub byte : (n : ℕ) → leb n 0xFF ≡ true → n % 256 ≡ n
-byte n = whole n 0xFF 256 (omega arith)
+pub wide : {E : Type 0} (k n : ℕ) (r : Result ℕ E) (o : rust.Option ℕ) → OkIff r (n < 2 ^ k) n → o ≡ result_ok r → o ≡ rust.None → n < 2 ^ k → ⊥
+wide k n (Ok y) o h e is = grind (arith, common_steps)
+wide k n (Err y) o h e is = h
 
-pub two_bytes : (n : ℕ) → leb n 0xFFFF ≡ true → n % 65536 ≡ n
-two_bytes n = whole n 0xFFFF 65536 (omega arith)
+-- a byte is the number that stands there, and no byte is a larger one
+pub whole_byte : (at x : ℕ) (r : List ℕ) (o : rust.Option ℕ) → o ≡ byte_in at r → o ≡ rust.Some x → x ≡ word_at at r
+whole_byte at x r o e is = grind (arith, common_steps)
+
+pub no_byte : (at : ℕ) (r : List ℕ) (o : rust.Option ℕ) → o ≡ byte_in at r → o ≡ rust.None → leb (word_at at r) 0xFF ≡ true → ⊥
+no_byte at r o e is h = grind (arith, common_steps)
+
+-- what the tables don't allow is refused
+pub unfit : (t : AnyTelegram) → (any_fits t ≡ true → ⊥) → none ≡ kept (some t)
+unfolding kept
+unfit t h = tested (any_fits t) (λ fit. absurd (h fit)) (λ bad. sym (stopped (any_fits t) t bad))
+
+pub unfit_none : (o : rust.Option Telegram) (l : List ℕ) (t : AnyTelegram) → o ≡ rust.None → (any_fits t ≡ true → ⊥) → kept (taken_said o l) ≡ kept (some t)
+unfolding kept taken_said
+unfit_none o l t e h = rw e (unfit t h)

@@ -1,6 +1,7 @@
 -- HOW A TELEGRAM CROSSES TO C: a record of 32 bytes, numbers lowest byte first. Bytes 0 to 3 the kind, 4 to 23 five fields of four bytes
 -- each, 24 the number of bytes that it carries, 25 to 31 those bytes, zeros after them. Assumes nothing.
 use Rattle.std.specs.Prelude.{ℕ, min, ◌&&◌, ◌||◌, List, [], ◌∷◌, ◌++◌, length, get_or, take, drop, eqb, leb, if◌then◌else◌}
+use Rattle.std.specs.Prelude as rust
 use Rattle.std.proofs.Math.Option.{Option, none, some}
 use Rattle.codec.specs.Word.{word, word_at}
 use Rattle.telegram.specs.Bits.{only_if}
@@ -28,6 +29,10 @@ count_in r = get_or r 24 0
 
 unfoldable pub carried_in : List ℕ → List ℕ
 carried_in r = take (min (count_in r) 7) (drop 25 r)
+
+-- a number, where it is a byte
+abbrev pub byte_in : ℕ → List ℕ → rust.Option ℕ
+byte_in at r = if leb (word_at at r) 0xFF then rust.Some (word_at at r) else rust.None
 
 -- each kind: its fields in their order, an identifier first
 unfoldable pub set_up_in : List ℕ → AnyTelegram

@@ -1,15 +1,11 @@
 // A telegram's record of 32 bytes, filled with its numbers.
 #![tactic(auto)]
 
-ghost use Rattle.std.specs.Prelude.{◌≡◌, List, ◌∷◌, ◌++◌, ℕ, ◌≤◌};
+ghost use Rattle.std.specs.Prelude.{◌≡◌, ◌∷◌, ◌++◌, ◌+◌, ◌≤◌, length};
 ghost use borrow.Rule.Slice.PartMut.{put_mid};
 ghost use Rattle.codec.specs.Plain.{zeros};
 ghost use Rattle.codec.specs.Word.{word};
-ghost use Rattle.telegram.specs.Bits.{only_if};
-ghost use Rattle.telegram_types.specs.Face.{said, taken_said};
-ghost use Rattle.telegram_record.specs.Record.{packed};
-
-use telegram_types::{Taken, Telegram};
+ghost use Rattle.telegram_record.specs.Record.{packed, byte_in};
 
 // A number's four bytes at a place.
 fn put(mut bytes: [u8; 32], at: usize, number: u32) -> [u8; 32]
@@ -41,12 +37,10 @@ pub fn pack(kind: u8, fields: [u32; 5], len: u8, payload: [u8; 7]) -> [u8; 32]
     put(c, 20, fields[4])
 }
 
-// The telegram, where the test holds.
-pub fn only_if(test: bool, telegram: Telegram) -> Taken
-    ensures { (bytes : List ℕ) → taken_said result bytes ≡ only_if test (said telegram bytes) }
+// The number at a place of a record, where it is a byte.
+pub fn byte_at(bytes: &[u8], at: usize) -> Option<u8>
+    requires { at + 4 ≤ length bytes.now }
+    ensures { result ≡ byte_in at bytes.now }
 {
-    if test {
-        return Taken::Yes(telegram);
-    }
-    Taken::No
+    u8::try_from(integers::word_at(bytes, at)).ok()
 }

@@ -1,7 +1,11 @@
 -- What the types of this crate's face say, as telegrams, and what the reader, the writer and the naming of a telegram have to answer.
 -- Assumes nothing.
-use Rattle.std.specs.Prelude.{ℕ, ◌+◌, ◌-◌, Bool, List, [], ◌∷◌, ◌++◌, length, take, drop, replicate, ltb, if◌then◌else◌}
+use Rattle.std.specs.Prelude.{ℕ, ◌+◌, ◌-◌, Bool, List, [], ◌∷◌, ◌++◌, length, take, drop, replicate, ltb, if◌then◌else◌, Result, Ok, Err}
+use Rattle.std.specs.Prelude as rust
 use Rattle.std.proofs.Math.Option.{Option, none, some}
+use Rattle.codes.specs.declared.Refusal.{Refusal}
+use Rattle.codes.specs.declared.Refusal.TheVariants.{InvalidMsg}
+use Rattle.codes.specs.Code.{number_of, code_of, value_of}
 use Rattle.telegram.specs.Bits.{bit_value}
 use Rattle.telegram.specs.Telegram.{set_up, positive, negative, data_telegram, acknowledge, connection, test, break_off, disconnection, AnyTelegram, opening, channel, any_fits, any_bytes}
 use Rattle.telegram.specs.Telegram as T
@@ -11,10 +15,7 @@ use Rattle.telegram_types.specs.declared.OnChannel.{OnChannel}
 use Rattle.telegram_types.specs.declared.OnChannel.TheVariants.{Data, Acknowledge, Connection, Test, Break, Disconnect}
 use Rattle.telegram_types.specs.declared.Telegram.{Telegram}
 use Rattle.telegram_types.specs.declared.Telegram.TheVariants.{Opening as opens, Channel as travels}
-use Rattle.telegram_types.specs.declared.Taken.{Taken}
-use Rattle.telegram_types.specs.declared.Taken.TheVariants.{Yes, No}
 use Rattle.telegram_types.specs.declared.Answer.{Answer}
-use Rattle.telegram_types.specs.declared.Written.{Written}
 use Rattle.telegram_types.specs.declared.Numbers.{Numbers}
 use Rattle.telegram_types.specs.declared.Named.{Named}
 
@@ -41,9 +42,9 @@ said (opens id o) bytes = opening id (opening_said o bytes)
 said (travels t) bytes = channel (channel_said t bytes)
 
 -- what was taken, or nothing
-unfoldable pub taken_said : Taken → List ℕ → Option AnyTelegram
-taken_said (Yes t) bytes = some (said t bytes)
-taken_said No bytes = none
+unfoldable pub taken_said : rust.Option Telegram → List ℕ → Option AnyTelegram
+taken_said (rust.Some t) bytes = some (said t bytes)
+taken_said rust.None bytes = none
 
 -- ---- the reader
 
@@ -53,9 +54,6 @@ pub record Told : Type 0 where
   pub telegram : Option AnyTelegram
   pub payload : List ℕ
   pub len : ℕ
-
-unfoldable pub told : Answer → Told
-told a = record { code = a.code; telegram = taken_said a.taken (take a.len a.payload); payload = a.payload; len = a.len }
 
 -- the bytes that a telegram carries: the five of a negative reply, the up to seven of data
 unfoldable pub carried_by : AnyTelegram → List ℕ
@@ -73,6 +71,11 @@ carried_by (channel disconnection) = []
 unfoldable pub padded : List ℕ → List ℕ
 padded bytes = bytes ++ replicate (7 - length bytes) 0
 
+-- a refusal gives its code, and carries nothing
+unfoldable pub told : Result Answer Refusal → Told
+told (Ok a) = record { code = 0x00; telegram = some (said a.telegram (take a.len a.payload)); payload = a.payload; len = a.len }
+told (Err refusal) = record { code = number_of refusal; telegram = none; payload = padded []; len = 0 }
+
 -- what the reader has to answer: 0x00 and the telegram, or 0x0A
 unfoldable pub answering : Option AnyTelegram → Told
 answering none = record { code = 0x0A; telegram = none; payload = padded []; len = 0 }
@@ -86,8 +89,8 @@ pub record Wrote : Type 0 where
   pub len : ℕ
   pub buffer : List ℕ
 
-unfoldable pub wrote : Written → List ℕ → Wrote
-wrote w buffer = record { code = w.code; len = w.len; buffer = buffer }
+unfoldable pub wrote : Result ℕ Refusal → List ℕ → Wrote
+wrote w buffer = record { code = code_of w; len = value_of w; buffer = buffer }
 
 -- a refusal leaves the buffer as it was
 unfoldable pub refusal : ℕ → List ℕ → Wrote
@@ -127,14 +130,7 @@ numbers_of (channel test) = kind_and_fields 0xA3 0 0 0 0 0
 numbers_of (channel break_off) = kind_and_fields 0xA4 0 0 0 0 0
 numbers_of (channel disconnection) = kind_and_fields 0xA8 0 0 0 0 0
 
--- a telegram in numbers, with what it carries; 0x0A and zeros where there is none
-unfoldable pub naming : Option AnyTelegram → Named
-naming none = record { code = 0x0A; kind = 0; fields = 0 ∷ 0 ∷ 0 ∷ 0 ∷ 0 ∷ []; payload = padded []; len = 0 }
-naming (some t) =
-    record {
-      code = 0x00;
-      kind = (numbers_of t).kind;
-      fields = (numbers_of t).fields;
-      payload = padded (carried_by t);
-      len = length (carried_by t);
-    }
+-- a telegram in numbers, with what it carries; the refusal 0x0A where there is none
+unfoldable pub naming : Option AnyTelegram → Result Named Refusal
+naming none = Err InvalidMsg
+naming (some t) = Ok (record { kind = (numbers_of t).kind; fields = (numbers_of t).fields; payload = padded (carried_by t); len = length (carried_by t) })

@@ -1,8 +1,27 @@
 // What callers, reader and writer hand each other: telegrams and answers as declared types.
 #![tactic(auto)]
 
+// The kinds of telegrams as numbers stand in traces and cross to C: document 001's bytes with the bits for fields at zero.
+pub const DATA: u8 = 0x00;
+
+pub const ACKNOWLEDGE: u8 = 0x90;
+
+pub const CONNECTION: u8 = 0xA0;
+
+pub const CONNECTION_ACKNOWLEDGE: u8 = 0xA1;
+
+pub const TEST: u8 = 0xA3;
+
+pub const BREAK: u8 = 0xA4;
+
+pub const DISCONNECT: u8 = 0xA8;
+
+pub const SET_UP: u8 = 0xC0;
+
+pub const POSITIVE: u8 = 0xD0;
+
 // An opening telegram. The five bytes of a negative reply stand beside it.
-#[derive(Drop)]
+#[derive(Clone, Copy)]
 pub enum Opening {
     SetUp {
         destination: u8,
@@ -22,7 +41,7 @@ pub enum Opening {
 }
 
 // A telegram on a channel. The bytes of data stand beside it.
-#[derive(Drop)]
+#[derive(Clone, Copy)]
 pub enum OnChannel {
     Data {
         asks: bool,
@@ -47,46 +66,30 @@ pub enum OnChannel {
 }
 
 // A telegram of either sort: only an opening one carries its identifier.
-#[derive(Drop)]
+#[derive(Clone, Copy)]
 pub enum Telegram {
     Opening(u32, Opening),
     Channel(OnChannel),
 }
 
-// What the reader took.
-#[derive(Drop)]
-pub enum Taken {
-    Yes(Telegram),
-    No,
-}
-
-// The reader's answer: 0x00 and the telegram, or 0x0A and none. What it carries are the first `len` bytes of the payload.
-#[derive(Drop)]
+// The reader's answer: the telegram, and what it carries, the first `len` bytes of the payload. No telegram is the refusal 0x0A.
+#[derive(Clone, Copy)]
 pub struct Answer {
-    pub code: u32,
-    pub taken: Taken,
+    pub telegram: Telegram,
     pub payload: [u8; 7],
     pub len: usize,
 }
 
-// The writer's answer: a code, and how many bytes were written.
-#[derive(Drop)]
-pub struct Written {
-    pub code: u32,
-    pub len: usize,
-}
-
 // A telegram's kind, by the byte that document 001 gives it with its fields at zero, and its fields in the order of the definitions.
-#[derive(Drop)]
+#[derive(Clone, Copy)]
 pub struct Numbers {
     pub kind: u8,
     pub fields: [u32; 5],
 }
 
-// A telegram in numbers for a trace, or the code 0x0A and zeros.
-#[derive(Drop)]
+// A telegram in numbers for a trace, and what it carries.
+#[derive(Clone, Copy)]
 pub struct Named {
-    pub code: u32,
     pub kind: u8,
     pub fields: [u32; 5],
     pub payload: [u8; 7],

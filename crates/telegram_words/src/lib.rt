@@ -2,6 +2,10 @@
 #![tactic(auto)]
 
 use std::io;
+use telegram_types::{
+    ACKNOWLEDGE, BREAK, CONNECTION, CONNECTION_ACKNOWLEDGE, DATA, DISCONNECT, POSITIVE, SET_UP,
+    TEST,
+};
 
 // A byte, a space before it.
 fn byte(out: &impl Print, b: u8) -> io::Result<()> {
@@ -10,10 +14,8 @@ fn byte(out: &impl Print, b: u8) -> io::Result<()> {
 
 // The bytes, a space before each.
 pub fn show(out: &impl Print, bytes: &[u8]) -> io::Result<()> {
-    let mut i = 0;
-    while i < bytes.len() {
-        byte(out, bytes[i])?;
-        i += 1;
+    for b in bytes {
+        byte(out, *b)?;
     }
     Ok(())
 }
@@ -36,25 +38,20 @@ pub fn code(out: &impl Print, n: u32) -> io::Result<()> {
     print!(out; " -> {n:02x}")
 }
 
-// A kind in words.
+// A kind in words; a negative reply has its own byte there.
 pub fn kind(out: &impl Print, n: u8) -> io::Result<()> {
     match n {
-        0x00 => out.write_all(b" data"),
-        0x90 => out.write_all(b" acknowledge"),
-        0xA0 => out.write_all(b" connection set-up"),
-        0xA1 => out.write_all(b" connection acknowledge"),
-        0xA3 => out.write_all(b" test"),
-        0xA4 => out.write_all(b" break"),
-        0xA8 => out.write_all(b" disconnect"),
-        0xC0 => out.write_all(b" set-up"),
-        0xD0 => out.write_all(b" positive reply"),
-        _ => negative(out, n),
+        DATA => out.write_all(b" data"),
+        ACKNOWLEDGE => out.write_all(b" acknowledge"),
+        CONNECTION => out.write_all(b" connection set-up"),
+        CONNECTION_ACKNOWLEDGE => out.write_all(b" connection acknowledge"),
+        TEST => out.write_all(b" test"),
+        BREAK => out.write_all(b" break"),
+        DISCONNECT => out.write_all(b" disconnect"),
+        SET_UP => out.write_all(b" set-up"),
+        POSITIVE => out.write_all(b" positive reply"),
+        _ => print!(out; " negative reply {n:02x}"),
     }
-}
-
-// A negative reply with its own byte.
-fn negative(out: &impl Print, n: u8) -> io::Result<()> {
-    print!(out; " negative reply {n:02x}")
 }
 
 // The bytes that a telegram carries.

@@ -75,10 +75,8 @@ pub fn valid(s: &[u8], flags: u32, timed: bool) -> bool
         return true;
     }
     let mut good = true;
-    let mut i = 0;
-    while i < places::PLACES {
+    for i in 0..places::PLACES {
         good = good & place(s, i, flags, timed);
-        i += 1;
     }
     good
 }

@@ -1,5 +1,6 @@
 -- The value of a digit and the number of some digits, as the readers find them. Assumes nothing.
-use Rattle.std.specs.Prelude.{if◌then◌else◌}
+use Rattle.std.specs.Prelude.{if◌then◌else◌, Some, None}
+use Rattle.std.specs.Prelude as std
 use Prim.Native.Nat.{ℕ, zero, suc, ◌+◌, ◌-◌, ◌*◌, ◌^◌, ◌≤◌, ◌<◌}
 use mathlib.Core.Path.{◌≡◌, refl, sym, ap, ◌∙◌}
 use mathlib.Core.Bool.{Bool, true, false, ◌&&◌}
@@ -15,8 +16,6 @@ use lib.Seq.{drop-cons}
 use Rattle.codec.proofs.Tests.{left, right, true_T}
 use Rattle.text.specs.Text.{digit_in, below, value_of}
 use Rattle.text_reader.specs.Reading.{no_digit, or_none, digit_of, far, near, valued, near_value}
-use Rattle.text_reader.specs.declared.Value.{Value}
-use Rattle.text_reader.specs.declared.Value.TheVariants.{Number, Bad}
 
 -- ---- a digit
 
@@ -28,21 +27,79 @@ pub high_end : (a b c : ℕ) → (leb a c && leb c b) ≡ true → c ≤ b
 high_end a b c e = leb→le c b (right (leb a c) (leb c b) (true_T _ e))
 
 module _ (c : ℕ) where
-  pub decimal_digit : (leb 0x30 c && leb c 0x39) ≡ true → digit_of c ≡ c - 0x30
-  unfolding digit_of or_none digit_in
+  pub decimal_digit : (leb 0x30 c && leb c 0x39) ≡ true → Some (c - 0x30) ≡ valued (digit_in c)
+  unfolding valued digit_in
   decimal_digit e = rw e
 
-  pub upper_digit : (leb 0x30 c && leb c 0x39) ≡ false → (leb 0x41 c && leb c 0x46) ≡ true → digit_of c ≡ c - 0x37
-  unfolding digit_of or_none digit_in
+  pub upper_digit : (leb 0x30 c && leb c 0x39) ≡ false → (leb 0x41 c && leb c 0x46) ≡ true → Some (c - 0x37) ≡ valued (digit_in c)
+  unfolding valued digit_in
   upper_digit e f = rw (e, f)
 
-  pub lower_digit : (leb 0x30 c && leb c 0x39) ≡ false → (leb 0x41 c && leb c 0x46) ≡ false → (leb 0x61 c && leb c 0x66) ≡ true → digit_of c ≡ c - 0x57
-  unfolding digit_of or_none digit_in
+  pub lower_digit : (leb 0x30 c && leb c 0x39) ≡ false → (leb 0x41 c && leb c 0x46) ≡ false → (leb 0x61 c && leb c 0x66) ≡ true → Some (c - 0x57) ≡ valued (digit_in c)
+  unfolding valued digit_in
   lower_digit e f g = rw (e, f, g)
 
-  pub not_a_digit : (leb 0x30 c && leb c 0x39) ≡ false → (leb 0x41 c && leb c 0x46) ≡ false → (leb 0x61 c && leb c 0x66) ≡ false → digit_of c ≡ no_digit
-  unfolding digit_of or_none digit_in
+  pub not_a_digit : (leb 0x30 c && leb c 0x39) ≡ false → (leb 0x41 c && leb c 0x46) ≡ false → (leb 0x61 c && leb c 0x66) ≡ false → None ≡ valued (digit_in c)
+  unfolding valued digit_in
   not_a_digit e f g = rw (e, f, g)
+
+  -- what the reader of a digit says
+  pub digit_is : (v : ℕ) → Some v ≡ valued (digit_in c) → digit_of c ≡ v
+  unfolding valued digit_of or_none
+  digit_is v = by (digit_in c)
+    where
+      by : (o : Option ℕ) → Some v ≡ valued o → or_none o ≡ v
+      by none e = let z : ◌≡◌ {A = ℕ} 0 1 = cc in absurd (omega arith)
+      by (some u) e = cc
+
+  pub digit_missing : None ≡ valued (digit_in c) → digit_of c ≡ no_digit
+  unfolding valued digit_of or_none
+  digit_missing = by (digit_in c)
+    where
+      by : (o : Option ℕ) → ◌≡◌ {A = std.Option ℕ} None (valued o) → or_none o ≡ no_digit
+      by none e = refl
+      by (some u) e = let z : ◌≡◌ {A = ℕ} 0 1 = cc in absurd (omega arith)
+
+  pub digit_there : digit_of c < no_digit → Some (digit_of c) ≡ valued (digit_in c)
+  unfolding valued digit_of or_none
+  digit_there = by (digit_in c)
+    where
+      by : (o : Option ℕ) → or_none o < no_digit → Some (or_none o) ≡ valued o
+      by none h = absurd (omega arith)
+      by (some u) h = refl
+
+  -- it is below 16
+  pub digit_small : (v : ℕ) → Some v ≡ valued (digit_in c) → v < 16
+  unfolding valued digit_in
+  digit_small v = decimals (leb 0x30 c && leb c 0x39) refl
+    where
+      lower : (g : Bool) → (leb 0x61 c && leb c 0x66) ≡ g → Some v ≡ valued (if g then some (c - 0x57) else none) → v < 16
+      lower true q e = let same : v ≡ c - 0x57 = cc in omega (arith, high_end 0x61 0x66 c q)
+      lower false q e = let z : ◌≡◌ {A = ℕ} 0 1 = cc in absurd (omega arith)
+
+      upper : (g : Bool) → (leb 0x41 c && leb c 0x46) ≡ g → Some v ≡ valued (if g then some (c - 0x37) else if leb 0x61 c && leb c 0x66 then some (c - 0x57) else none) → v < 16
+      upper true q e = let same : v ≡ c - 0x37 = cc in omega (arith, high_end 0x41 0x46 c q)
+      upper false q e = lower (leb 0x61 c && leb c 0x66) refl e
+
+      decimals : (g : Bool) → (leb 0x30 c && leb c 0x39) ≡ g → Some v ≡ valued (if g then some (c - 0x30) else if leb 0x41 c && leb c 0x46 then some (c - 0x37) else if leb 0x61 c && leb c 0x66 then some (c - 0x57) else none) → v < 16
+      decimals true q e = let same : v ≡ c - 0x30 = cc in omega (arith, high_end 0x30 0x39 c q)
+      decimals false q e = upper (leb 0x41 c && leb c 0x46) refl e
+
+  -- is there a digit?
+  module _ (r : std.Option ℕ) (e : r ≡ valued (digit_in c)) where
+    pub some_digit : std.is_some r ≡ true → digit_of c < 16
+    some_digit = by r refl
+      where
+        by : (o : std.Option ℕ) → r ≡ o → std.is_some o ≡ true → digit_of c < 16
+        by None q h = let z : ◌≡◌ {A = ℕ} 0 1 = cc in absurd (omega arith)
+        by (Some v) q h = omega (arith, digit_is v (sym q ∙ e), digit_small v (sym q ∙ e))
+
+    pub no_digit_there : std.is_some r ≡ false → 16 ≤ digit_of c
+    no_digit_there = by r refl
+      where
+        by : (o : std.Option ℕ) → r ≡ o → std.is_some o ≡ false → 16 ≤ digit_of c
+        by None q h = omega (arith, digit_missing (sym q ∙ e))
+        by (Some v) q h = let z : ◌≡◌ {A = ℕ} 0 1 = cc in absurd (omega arith)
 
   module _ (base : ℕ) (most : base ≤ 16) where
     -- it is below the base, or it counts for none
@@ -119,14 +176,7 @@ pub record Read (base : ℕ) (s : List ℕ) (v i : ℕ) : Type 0 where
   pub small : v ≤ far
   pub is : map near (value_of base v (drop i s)) ≡ map near (value_of base 0 s)
 
-pub none_read : (base : ℕ) (s : List ℕ) → Read base s 0 0
-none_read base s = record { inside = omega arith; small = omega arith; is = refl }
-
 module _ {base : ℕ} {s : List ℕ} {v i : ℕ} (one : 1 ≤ base) (most : base ≤ 16) (r : Read base s v i) where
-  -- a product that fits
-  pub product : v * base ≤ far * 16
-  product = omega (arith, mul-le-mul_right base r.small, mul-le-mul_left far most)
-
   pub one_more : i < length s → digit_of (get_or s i 0) < base → Read base s (near (v * base + digit_of (get_or s i 0))) (i + 1)
   unfolding value_of bind
   one_more h d =
@@ -139,13 +189,13 @@ module _ {base : ℕ} {s : List ℕ} {v i : ℕ} (one : 1 ≤ base) (most : base
         is = near_digits base one (v * base + digit_of (get_or s i 0)) (drop (i + 1) s) ∙ sym step ∙ r.is;
       }
 
-  pub no_number : i < length s → base ≤ digit_of (get_or s i 0) → Bad ≡ near_value base s
+  pub no_number : i < length s → base ≤ digit_of (get_or s i 0) → None ≡ near_value base s
   unfolding near_value value_of bind valued
   no_number h d =
       let step : map near (value_of base v (drop i s)) ≡ none = rw (drop-cons s i 0 h, digit_refused (get_or s i 0) base most d) in
       ap valued (sym step ∙ r.is)
 
-  pub all_read : length s ≤ i → Number v ≡ near_value base s
+  pub all_read : length s ≤ i → Some v ≡ near_value base s
   unfolding near_value value_of valued
   all_read h =
       let end : map near (value_of base v (drop i s)) ≡ some v = ap (λ (l : List ℕ). map near (value_of base v l)) (drop_of_length-le s {i = i} h) ∙ ap some (near_is v r.small) in
@@ -153,27 +203,37 @@ module _ {base : ℕ} {s : List ℕ} {v i : ℕ} (one : 1 ≤ base) (most : base
 
 -- ---- what an answer says
 
+pub valued_some : (o : Option ℕ) (m : ℕ) → Some m ≡ valued o → o ≡ some m
+unfolding valued
+valued_some none m e = let z : ◌≡◌ {A = ℕ} 0 1 = cc in absurd (omega arith)
+valued_some (some v) m e = let same : m ≡ v = cc in ap some (sym same)
+
+pub valued_none : (o : Option ℕ) → None ≡ valued o → o ≡ none
+unfolding valued
+valued_none none e = refl
+valued_none (some v) e = let z : ◌≡◌ {A = ℕ} 0 1 = cc in absurd (omega arith)
+
 pub record NearNumber (base : ℕ) (l : List ℕ) (v : ℕ) : Type 0 where
   pub exact : ℕ
   pub is : value_of base 0 l ≡ some exact
   pub nears : near exact ≡ v
   pub small : v ≤ far
 
-pub number_there : (base : ℕ) (l : List ℕ) (v : ℕ) → Number v ≡ near_value base l → NearNumber base l v
+pub number_there : (base : ℕ) (l : List ℕ) (v : ℕ) → Some v ≡ near_value base l → NearNumber base l v
 unfolding near_value valued
 number_there base l v = by (value_of base 0 l) refl
   where
-    by : (o : Option ℕ) → value_of base 0 l ≡ o → Number v ≡ valued (map near o) → NearNumber base l v
+    by : (o : Option ℕ) → value_of base 0 l ≡ o → Some v ≡ valued (map near o) → NearNumber base l v
     by none q e = let z : ◌≡◌ {A = ℕ} 0 1 = cc in absurd (omega arith)
     by (some u) q e =
         let n : near u ≡ v = cc in
         record { exact = u; is = q; nears = n; small = omega (arith, near_most u) }
 
-pub number_missing : (base : ℕ) (l : List ℕ) → Bad ≡ near_value base l → value_of base 0 l ≡ none
+pub number_missing : (base : ℕ) (l : List ℕ) → None ≡ near_value base l → value_of base 0 l ≡ none
 unfolding near_value valued
 number_missing base l = by (value_of base 0 l) refl
   where
-    by : (o : Option ℕ) → value_of base 0 l ≡ o → Bad ≡ valued (map near o) → value_of base 0 l ≡ none
+    by : (o : Option ℕ) → value_of base 0 l ≡ o → None ≡ valued (map near o) → value_of base 0 l ≡ none
     by none q e = q
     by (some u) q e = let z : ◌≡◌ {A = ℕ} 0 1 = cc in absurd (omega arith)
 

@@ -1,22 +1,24 @@
 -- What the readers of text answer: where a byte stands, the value of a digit, the number of digits. Assumes nothing.
-use Rattle.std.specs.Prelude.{ℕ, zero, suc, List, [], ◌∷◌, eqb, leb, if◌then◌else◌}
-use Rattle.std.proofs.Math.Option.{Option, none, some, map}
+use Rattle.std.specs.Prelude.{ℕ, zero, suc, ◌+◌, List, [], ◌∷◌, eqb, leb, ltb, length, drop, if◌then◌else◌, Option, Some, None}
+use Rattle.std.proofs.Math.Option as maybe
 use Rattle.text.specs.Text.{digit_in, value_of}
-use Rattle.text_reader.specs.declared.Value.{Value}
-use Rattle.text_reader.specs.declared.Value.TheVariants.{Number, Bad}
 
 -- how many bytes stand before the first c; all where there is none
 unfoldable pub before : ℕ → List ℕ → ℕ
 before c [] = zero
 before c (x ∷ xs) = if eqb x c then zero else suc (before c xs)
 
+-- the place of the first c from a place on; none where there is none
+unfoldable pub first_at : ℕ → List ℕ → ℕ → Option ℕ
+first_at c s from = if ltb (from + before c (drop from s)) (length s) then Some (from + before c (drop from s)) else None
+
 -- what stands for no digit
 abbrev pub no_digit : ℕ
 no_digit = 255
 
-unfoldable pub or_none : Option ℕ → ℕ
-or_none none = no_digit
-or_none (some v) = v
+unfoldable pub or_none : maybe.Option ℕ → ℕ
+or_none maybe.none = no_digit
+or_none (maybe.some v) = v
 
 -- a hexadecimal digit's value
 unfoldable pub digit_of : ℕ → ℕ
@@ -30,10 +32,11 @@ far = 10_000_000_000
 unfoldable pub near : ℕ → ℕ
 near v = if leb v far then v else far
 
-unfoldable pub valued : Option ℕ → Value
-valued none = Bad
-valued (some v) = Number v
+-- what code answers for a number that may be missing
+unfoldable pub valued : maybe.Option ℕ → Option ℕ
+valued maybe.none = None
+valued (maybe.some v) = Some v
 
 -- THE NUMBER of these digits, no larger than the far one
-unfoldable pub near_value : ℕ → List ℕ → Value
-near_value base l = valued (map near (value_of base 0 l))
+unfoldable pub near_value : ℕ → List ℕ → Option ℕ
+near_value base l = valued (maybe.map near (value_of base 0 l))

@@ -1,51 +1,40 @@
 // Reads text: where a byte stands, the value of a digit of either case, the number of some digits.
 #![tactic(auto)]
 
-ghost use Rattle.std.specs.Prelude.{◌≡◌, ◌+◌, ◌≤◌, length, drop};
-ghost use Rattle.text_reader.specs.Reading.{before, digit_of, far, near, near_value};
-
-// The number of some digits, or that one of them is none.
-#[derive(Drop)]
-pub enum Value {
-    Number(u64),
-    Bad,
-}
-
-// What stands for no digit.
-pub const NO_DIGIT: u8 = 255;
+ghost use Rattle.std.specs.Prelude.{◌≡◌, ◌≤◌, length};
+ghost use Rattle.text.specs.Text.{digit_in};
+ghost use Rattle.text_reader.specs.Reading.{first_at, valued, near, near_value};
 
 // A number past every one that counts: larger ones are not told apart.
 pub const FAR: u64 = 10000000000;
 
-// The place of the first such byte from a place on, or the end of the slice where there is none.
-pub fn find(s: &[u8], from: usize, byte: u8) -> usize
+// The place of the first such byte from a place on.
+pub fn find(s: &[u8], from: usize, byte: u8) -> Option<usize>
     requires { from ≤ length s.now }
-    ensures { result ≡ from + before byte (drop from s.now) }
+    ensures { result ≡ first_at byte s.now from }
 {
-    let mut i = from;
-    while i < s.len() {
+    for i in from..s.len() {
         if s[i] == byte {
-            return i;
+            return Some(i);
         }
-        i += 1;
     }
-    i
+    None
 }
 
 // The value of a hexadecimal digit of either case.
-pub fn digit(c: u8) -> u8
-    ensures { result ≡ digit_of c }
+pub fn digit(c: u8) -> Option<u8>
+    ensures { result ≡ valued (digit_in c) }
 {
     if (48 <= c) & (c <= 57) {
-        return c - 48;
+        return Some(c - 48);
     }
     if (65 <= c) & (c <= 70) {
-        return c - 55;
+        return Some(c - 55);
     }
     if (97 <= c) & (c <= 102) {
-        return c - 87;
+        return Some(c - 87);
     }
-    NO_DIGIT
+    None
 }
 
 // A number, or the far one if it is larger.
@@ -58,20 +47,18 @@ fn at_most_far(v: u64) -> u64
     FAR
 }
 
-// The number that all these digits make, no larger than the far one.
-pub fn number(s: &[u8], base: u64) -> Value
+// The number that all these digits make, no larger than the far one; none where one of them is no digit of the base.
+pub fn number(s: &[u8], base: u64) -> Option<u64>
     requires { (1 ≤ base) × (base ≤ 16) }
     ensures { result ≡ near_value base s.now }
 {
     let mut v: u64 = 0;
-    let mut i = 0;
-    while i < s.len() {
-        let d = digit(s[i]) as u64;
+    for c in s {
+        let d = digit(*c)? as u64;
         if d >= base {
-            return Value::Bad;
+            return None;
         }
         v = at_most_far(v * base + d);
-        i += 1;
     }
-    Value::Number(v)
+    Some(v)
 }

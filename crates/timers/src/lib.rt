@@ -39,10 +39,8 @@ fn later_places(part: &mut [u8], us: u32)
     requires { PeriodicPart part.old × (us ≤ most_advance) }
     ensures { (flags : ℕ) → part.new ≡ (periodics flags).put (map (later_slot us) ((periodics flags).get part.old)) }
 {
-    let mut i = 0;
-    while i < places::PLACES {
+    for i in 0..places::PLACES {
         later_at(part, i, us);
-        i += 1;
     }
 }
 

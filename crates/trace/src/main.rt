@@ -2,14 +2,19 @@
 // says that the program could not read or write.
 #![tactic(auto)]
 
-use codes::Answer;
+use codes::Refusal;
 use device::MEMORY;
-use events::{Event, Found, Giving, Plain};
+use events::{Event, Giving, Plain};
 use std::io;
 use trace_words::{part, text};
 
-// The code of an event that is answered by its code alone.
-fn plain_code(memory: &mut [u8; MEMORY], rates: &[u32], recording: &[u8], e: &Plain) -> u32 {
+// The answer to an event that is answered by its code alone.
+fn plain_code(
+    memory: &mut [u8; MEMORY],
+    rates: &[u32],
+    recording: &[u8],
+    e: &Plain,
+) -> Result<(), Refusal> {
     match e {
         Plain::Disconnect(channel) => device::disconnect(memory, *channel),
         Plain::Close => device::close(memory),
@@ -32,7 +37,12 @@ fn plain_code(memory: &mut [u8; MEMORY], rates: &[u32], recording: &[u8], e: &Pl
 }
 
 // The answer to an event that is answered by a number too.
-fn answer(memory: &mut [u8; MEMORY], rates: &[u32], recording: &[u8], e: &Giving) -> Answer {
+fn answer(
+    memory: &mut [u8; MEMORY],
+    rates: &[u32],
+    recording: &[u8],
+    e: &Giving,
+) -> Result<u32, Refusal> {
     match e {
         Giving::Connect(line, protocol, flags, rate) => {
             device_channels::connect_with(memory, rates, *line, *protocol, *flags, *rate)
@@ -79,16 +89,16 @@ fn answer(memory: &mut [u8; MEMORY], rates: &[u32], recording: &[u8], e: &Giving
 fn read(out: &impl Print, memory: &mut [u8; MEMORY], channel: u32, n: u32) -> io::Result<()> {
     let mut buffer = [0u8; recording_sizes::RECORDS];
     trace_events::read(out, channel, n)?;
-    let answer = device::read(memory, channel, n, &mut buffer);
-    trace_events::given_records(out, channel, answer, &buffer)
+    let moved = device::read(memory, channel, n, &mut buffer);
+    trace_events::given_records(out, channel, moved, &buffer)
 }
 
 // A take, its answer and the record to send.
 fn take(out: &impl Print, memory: &mut [u8; MEMORY], channel: u32) -> io::Result<()> {
     let mut buffer = [0u8; recording_sizes::ISO_RECORD];
     trace_events::take(out, channel)?;
-    let code = device::take(memory, channel, &mut buffer);
-    trace_events::taken(out, channel, code, &buffer)
+    let answer = device::take(memory, channel, &mut buffer);
+    trace_events::taken(out, channel, answer, &buffer)
 }
 
 // Is the ISO 15765 channel of a line open?
@@ -97,7 +107,7 @@ fn iso_open(memory: &[u8], line: u32) -> bool {
         return false;
     }
     let channel = places::LINES as u32 + 1 + line;
-    device::last_error(memory, channel).code == codes::STATUS_NOERROR
+    device::last_error(memory, channel).is_ok()
 }
 
 // What a frame that was accepted is on the ISO 15765 channel of its line, where that is open; nothing of any other event.
@@ -126,9 +136,9 @@ fn coded(
     asked: &Plain,
 ) -> io::Result<()> {
     trace_events::plain(out, recording, asked)?;
-    let code = plain_code(memory, rates, recording, asked);
-    trace_events::coded(out, code)?;
-    if code == codes::STATUS_NOERROR {
+    let answer = plain_code(memory, rates, recording, asked);
+    trace_events::coded(out, answer)?;
+    if answer.is_ok() {
         heard(out, memory, recording, asked)?;
     }
     Ok(())
@@ -157,8 +167,8 @@ fn event(
         } => {
             trace_events::write(out, channel, n)?;
             let list = part(recording, from, end);
-            let answer = device::write(memory, channel, n, list);
-            trace_events::written(out, channel, answer, list)
+            let moved = device::write(memory, channel, n, list);
+            trace_events::written(out, channel, moved, list)
         }
         Event::Read(channel, n) => read(out, memory, channel, n),
         Event::Take(channel) => take(out, memory, channel),
@@ -175,16 +185,14 @@ fn bad(out: &impl Print, recording: &[u8], at: usize) -> io::Result<()> {
 // as many as bytes.
 fn show(out: &impl Print, recording: &[u8], rates: &[u32]) -> io::Result<()> {
     let mut memory = [0u8; MEMORY];
-    device::power_on(&mut memory);
+    let _ = device::power_on(&mut memory);
     let mut at = edition::start_of(recording);
-    let mut n = 0;
-    while n < recording.len() {
-        n += 1;
+    for n in 1..=recording.len() {
         if at >= recording.len() {
             return Ok(());
         }
         trace_words::line(out, n)?;
-        let Found::Good(e, next) = event_reader::read_event(recording, at) else {
+        let Some((e, next)) = event_reader::read_event(recording, at) else {
             return bad(out, recording, at);
         };
         event(out, &mut memory, rates, recording, e)?;

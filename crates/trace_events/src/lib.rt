@@ -1,7 +1,7 @@
 // Events, records and answers of a device, in words.
 #![tactic(auto)]
 
-use codes::Answer;
+use codes::{Moved, Refusal};
 use events::{Giving, Plain};
 use std::io;
 use trace_words::{byte_at, bytes, code, hex, named, number, part, records, text, two};
@@ -84,6 +84,7 @@ fn channel_records(out: &impl Print, channel: u32, given: bool, list: &[u8]) -> 
     let size = recording_sizes::record_on(channel);
     let told = given & recording_sizes::on_iso(channel);
     let mut at = 0;
+    // `step_by` was tried: no bound of a step is known of it, so that `at + size` and the end of the loop stay open
     while at < list.len() {
         record(out, told, part(list, at, at + size))?;
         at += size;
@@ -296,8 +297,8 @@ fn arrow(out: &impl Print, n: u32) -> io::Result<()> {
 }
 
 // The answer to an event that is answered by its code alone.
-pub fn coded(out: &impl Print, n: u32) -> io::Result<()> {
-    arrow(out, n)?;
+pub fn coded(out: &impl Print, answer: Result<(), Refusal>) -> io::Result<()> {
+    arrow(out, codes::code_of(answer))?;
     text(out, b"\n")
 }
 
@@ -331,19 +332,24 @@ fn given(out: &impl Print, e: &Giving, value: u32) -> io::Result<()> {
 }
 
 // The answer to an event that is answered by a number too, and the records that it lends.
-pub fn numbered(out: &impl Print, recording: &[u8], e: &Giving, answer: Answer) -> io::Result<()> {
-    arrow(out, answer.code)?;
-    if answer.code == codes::STATUS_NOERROR {
-        given(out, e, answer.value)?;
+pub fn numbered(
+    out: &impl Print,
+    recording: &[u8],
+    e: &Giving,
+    answer: Result<u32, Refusal>,
+) -> io::Result<()> {
+    arrow(out, codes::code_of(answer))?;
+    if let Ok(value) = answer {
+        given(out, e, value)?;
     }
     text(out, b"\n")?;
     lent(out, recording, e)
 }
 
 // The code of a read or a write, and how many records it gave or took.
-fn counted(out: &impl Print, answer: Answer) -> io::Result<()> {
-    arrow(out, answer.code)?;
-    records(out, b", ", answer.value)?;
+fn counted(out: &impl Print, moved: Moved) -> io::Result<()> {
+    arrow(out, codes::code_of(moved.end))?;
+    records(out, b", ", moved.count)?;
     text(out, b"\n")
 }
 
@@ -354,8 +360,8 @@ pub fn write(out: &impl Print, channel: u32, n: u32) -> io::Result<()> {
 }
 
 // The answer to a write on a channel, and its records.
-pub fn written(out: &impl Print, channel: u32, answer: Answer, list: &[u8]) -> io::Result<()> {
-    counted(out, answer)?;
+pub fn written(out: &impl Print, channel: u32, moved: Moved, list: &[u8]) -> io::Result<()> {
+    counted(out, moved)?;
     channel_records(out, channel, false, list)
 }
 
@@ -369,11 +375,11 @@ pub fn read(out: &impl Print, channel: u32, n: u32) -> io::Result<()> {
 pub fn given_records(
     out: &impl Print,
     channel: u32,
-    answer: Answer,
+    moved: Moved,
     buffer: &[u8],
 ) -> io::Result<()> {
-    let n = answer.value as usize;
-    counted(out, answer)?;
+    let n = moved.count as usize;
+    counted(out, moved)?;
     let list = input::first(buffer, n * recording_sizes::record_on(channel));
     channel_records(out, channel, true, list)
 }
@@ -384,9 +390,14 @@ pub fn take(out: &impl Print, channel: u32) -> io::Result<()> {
 }
 
 // The answer to a take of a channel, and the record to send.
-pub fn taken(out: &impl Print, channel: u32, n: u32, buffer: &[u8]) -> io::Result<()> {
-    coded(out, n)?;
-    if n == codes::STATUS_NOERROR {
+pub fn taken(
+    out: &impl Print,
+    channel: u32,
+    answer: Result<(), Refusal>,
+    buffer: &[u8],
+) -> io::Result<()> {
+    coded(out, answer)?;
+    if answer.is_ok() {
         frame_record(
             out,
             channel,

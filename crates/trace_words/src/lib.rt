@@ -53,10 +53,8 @@ fn byte(out: &impl Print, b: u8) -> io::Result<()> {
 
 // The bytes in hexadecimal, a space before each.
 pub fn bytes(out: &impl Print, list: &[u8]) -> io::Result<()> {
-    let mut i = 0;
-    while i < list.len() {
+    for i in 0..list.len() {
         byte(out, list[i])?;
-        i += 1;
     }
     Ok(())
 }
@@ -78,30 +76,26 @@ pub fn part(bytes: &[u8], from: usize, end: usize) -> &[u8] {
 
 // Where the n-th of some words begins, which commas part; the end where there are not so many.
 fn word_start(words: &[u8], n: u32) -> usize {
-    let mut at = 0;
     let mut left = n;
-    while at < words.len() {
+    for at in 0..words.len() {
         if left == 0 {
             return at;
         }
         if words[at] == b',' {
             left -= 1;
         }
-        at += 1;
     }
-    at
+    words.len()
 }
 
 // Where the word at a place ends.
 fn word_end(words: &[u8], from: usize) -> usize {
-    let mut at = from;
-    while at < words.len() {
+    for at in from..words.len() {
         if words[at] == b',' {
             return at;
         }
-        at += 1;
     }
-    at
+    from.max(words.len())
 }
 
 // The name of a number: the word of its place in a list, in brackets. Nothing where it has none.

@@ -1,9 +1,10 @@
 // Worked telegrams as bytes, and a line for what the reader, the naming and the writer make of each.
 #![tactic(auto)]
 
+use codes::code_of;
 use std::io;
 use telegram_words::{carried, code, first, kind, number, show};
-use tp20::{Taken, Telegram};
+use tp20::Telegram;
 
 // Telegrams on a channel: how many bytes, and the bytes.
 const ON_CHANNEL: [[u8; 10]; 28] = [
@@ -67,14 +68,14 @@ const OPENINGS: [[u8; 11]; 24] = [
 
 // The kind and the fields of a telegram, and what it carries.
 fn named(out: &impl Print, opening: bool, identifier: u32, bytes: &[u8]) -> io::Result<()> {
-    let name = tp20::name(opening, identifier, bytes);
+    let Ok(name) = tp20::name(opening, identifier, bytes) else {
+        return Ok(());
+    };
     kind(out, name.kind)?;
     let fields = name.fields;
-    number(out, fields[0])?;
-    number(out, fields[1])?;
-    number(out, fields[2])?;
-    number(out, fields[3])?;
-    number(out, fields[4])?;
+    for field in &fields {
+        number(out, *field)?;
+    }
     let payload = name.payload;
     carried(out, &payload, name.len)
 }
@@ -82,22 +83,20 @@ fn named(out: &impl Print, opening: bool, identifier: u32, bytes: &[u8]) -> io::
 // What the writer makes of a telegram that was read.
 fn again(out: &impl Print, telegram: Telegram, payload: &[u8; 7], n: usize) -> io::Result<()> {
     let mut buf = [0u8; 8];
-    let written = tp20::write(telegram, first(payload, n), &mut buf);
+    let len = tp20::write(telegram, first(payload, n), &mut buf).unwrap_or(0);
     out.write_all(b"; again")?;
-    show(out, first(&buf, written.len))
+    show(out, first(&buf, len))
 }
 
 // Reads the bytes and prints what is found; what is taken is written again.
 fn read(out: &impl Print, opening: bool, identifier: u32, bytes: &[u8]) -> io::Result<()> {
     let answer = tp20::read(opening, identifier, bytes);
-    code(out, answer.code)?;
-    let taken = answer.taken;
-    let Taken::Yes(telegram) = taken else {
+    code(out, code_of(answer))?;
+    let Ok(answer) = answer else {
         return out.write_all(b"\n");
     };
     named(out, opening, identifier, bytes)?;
-    let payload = answer.payload;
-    again(out, telegram, &payload, answer.len)?;
+    again(out, answer.telegram, &answer.payload, answer.len)?;
     out.write_all(b"\n")
 }
 
@@ -112,7 +111,7 @@ fn on_channel(out: &impl Print, row: [u8; 10]) -> io::Result<()> {
 
 // The number of two bytes, the higher one first.
 fn pair(high: u8, low: u8) -> u32 {
-    high as u32 * 256 + low as u32
+    u32::from(u16::from_be_bytes([high, low]))
 }
 
 // Runs a row of the opening telegrams.
@@ -138,10 +137,8 @@ fn case(out: &impl Print, i: usize) -> io::Result<()> {
 
 // Runs both tables.
 pub fn reads(out: &impl Print) -> io::Result<()> {
-    let mut i = 0;
-    while i < 52 {
+    for i in 0..52 {
         case(out, i)?;
-        i += 1;
     }
     Ok(())
 }

@@ -1,12 +1,13 @@
 // Worked telegrams as values, on a channel and opening ones, and a line for what the writer makes of each.
 #![tactic(auto)]
 
+use codes::{Refusal, code_of};
 use std::io;
 use telegram_words::{code, show_all};
-use tp20::{OnChannel, Opening, Telegram, Written};
+use tp20::{OnChannel, Opening, Telegram};
 
 // Writes a telegram into the first n bytes of the buffer, or into all where there are fewer.
-fn into(telegram: Telegram, carried: &[u8], buf: &mut [u8], n: usize) -> Written {
+fn into(telegram: Telegram, carried: &[u8], buf: &mut [u8], n: usize) -> Result<usize, Refusal> {
     if n < buf.len() {
         return tp20::write(telegram, carried, &mut buf[0..n]);
     }
@@ -26,8 +27,8 @@ pub fn write(
     out.write_all(b"write ")?;
     out.write_all(label)?;
     print!(out; " into {n}")?;
-    code(out, written.code)?;
-    let len = written.len;
+    code(out, code_of(written))?;
+    let len = written.unwrap_or(0);
     print!(out; " {len}")?;
     show_all(out, &buf)
 }

@@ -11,22 +11,9 @@ use borrow.Author.Tests.{ne_eqb}
 use Rattle.codec.specs.Plain.{all, is_byte}
 use Rattle.codec.specs.Code.{Code}
 use Rattle.codec.proofs.Lists.{all_drop}
-use Rattle.codec.proofs.Lawful.{Lawful}
 use Rattle.machine.specs.Message.{Rec, clean}
 use Rattle.machine.specs.Channel.{Wrote, unless_stopped}
-use Rattle.writing.specs.Store.{queued, Queued, Stopped}
-
--- a way of writing: the store, the size of a lent record, the rule of codes, what n records leave, and that what is queued can be held
-pub record Kind : Type 0 where
-  pub store : Code (List Rec)
-  pub lawful : Lawful store
-  pub size : ℕ
-  pub rule : List Rec → List ℕ → ℕ
-  pub writes : ℕ → List ℕ → List Rec → ℕ → Wrote
-  pub none_left : (b : List ℕ) (held : List Rec) (count : ℕ) → writes 0 b held count ≡ record { held = held; count = count; code = 0 }
-  pub one_left : (n : ℕ) (b : List ℕ) (held : List Rec) (count : ℕ)
-      → writes (suc n) b held count ≡ unless_stopped (rule held b) held count (writes n (drop size b) (held ++ clean b ∷ []) (count + 1))
-  pub more_ok : (held : List Rec) (m : List ℕ) → rule held m ≡ 0 → size ≤ length m → T (all is_byte m) → T (store.ok held) → T (store.ok (held ++ clean m ∷ []))
+use Rattle.writing.specs.Store.{queued, Queued, Stopped, Kind, StorePart, Laws}
 
 -- ---- one message
 
@@ -55,7 +42,7 @@ unfolding unless_stopped
 goes_on code held count more e = ap (λ (k : ℕ). unless_stopped k held count more) e
 
 -- n records of b, after i of them
-module _ (w : Kind) (n i : ℕ) (b : List ℕ) (held : List Rec) where
+module _ {w : Kind} (k : Laws w) (n i : ℕ) (b : List ℕ) (held : List Rec) where
   abbrev here : List ℕ
   here = drop (w.size * i) b
 
@@ -71,7 +58,7 @@ module _ (w : Kind) (n i : ℕ) (b : List ℕ) (held : List Rec) where
       let e : w.size * i + w.size ≡ w.size * (i + 1) = omega (arith, mul-add w.size i 1, mul-one w.size) in
       let d : drop w.size here ≡ drop (w.size * (i + 1)) b = drop-drop w.size (w.size * i) b ∙ ap (λ (k : ℕ). drop k b) e in
       ap (λ (k : ℕ). w.writes k here held i) s
-      ∙ w.one_left (n - (i + 1)) here held i
+      ∙ k.one_left (n - (i + 1)) here held i
       ∙ ap (λ (x : List ℕ). unless_stopped (w.rule held here) held i (w.writes (n - (i + 1)) x (held ++ clean here ∷ []) (i + 1))) d
 
   turned : i < n → w.rule held here ≡ 0 → now ≡ more
@@ -80,74 +67,53 @@ module _ (w : Kind) (n i : ℕ) (b : List ℕ) (held : List Rec) where
   stopped : (code : ℕ) → i < n → code ≡ w.rule held here → (code ≡ 0 → ⊥) → now ≡ record { held = held; count = i; code = code }
   stopped code h e z = one_more_turn h ∙ ap (λ (k : ℕ). unless_stopped k held i more) (sym e) ∙ stops code held i more z
 
-  ended : n ≤ i → now ≡ record { held = held; count = i; code = 0 }
-  ended h = let z : n - i ≡ 0 = omega arith in ap (λ (k : ℕ). w.writes k here held i) z ∙ w.none_left here held i
-
 -- a store after i of n records of b
 pub record Turn (w : Kind) (n : ℕ) (b before store : List ℕ) (i : ℕ) : Type 0 where
-  pub some_left : i ≤ n
-  pub long : length store ≡ w.store.size
-  pub valid : T (w.store.valid store)
+  pub part : StorePart w store
   pub same : w.writes n b (w.store.get before) 0 ≡ w.writes (n - i) (drop (w.size * i) b) (w.store.get store) i
-
-pub no_turn : (w : Kind) {store : List ℕ} (n : ℕ) (b : List ℕ) → length store ≡ w.store.size → T (w.store.valid store) → Turn w n b store store 0
-no_turn w {store} n b l v =
-    let e : n ≡ n - 0 = omega arith in
-    let z : 0 ≡ w.size * 0 = omega arith in
-    record {
-      some_left = omega arith;
-      long = l;
-      valid = v;
-      same = ap (λ (k : ℕ). w.writes k b (w.store.get store) 0) e ∙ ap (λ (k : ℕ). w.writes (n - 0) (drop k b) (w.store.get store) 0) z;
-    }
 
 -- a write that ends so
 ends : {store : Code (List Rec)} {w : Wrote} {code count : ℕ} {held : List Rec} {after : List ℕ} → w ≡ record { held = held; count = count; code = code } → after ≡ store.put held → Stopped store w code count after
 ends {store} e s =
     record { code_is = sym (ap (λ (x : Wrote). x.code) e); count_is = sym (ap (λ (x : Wrote). x.count) e); store_is = s ∙ ap (λ (x : Wrote). store.put x.held) (sym e) }
 
-module _ {w : Kind} {n : ℕ} {b before store : List ℕ} {i : ℕ} (u : Turn w n b before store i) where
+-- the room for a record that is left
+room : (size n i k : ℕ) → i < n → size * n ≤ k → size * i + size ≤ k
+room size n i k h l = omega (arith, mul-add size i 1, mul-one size, mul-le-mul_left {m = i + 1} {n = n} size (omega arith))
+
+module _ {w : Kind} (k : Laws w) {n : ℕ} {b before store : List ℕ} {i : ℕ} (u : Turn w n b before store i) where
   abbrev held : List Rec
   held = w.store.get store
 
-  -- all records were queued
-  pub turn_ends : n ≤ i → Stopped w.store (w.writes n b (w.store.get before) 0) 0 i store
-  turn_ends h = ends (u.same ∙ ended w n i b held h) (sym (w.lawful.put_get store u.long u.valid))
-
-  module _ (h : i < n) (l : w.size * n ≤ length b) where
+  module _ {size : ℕ} (e : w.size ≡ size) (h : i < n) (l : size * n ≤ length b) where
     -- the message that is lent
     abbrev pub lent : List ℕ
-    lent = take (length b - w.size * i) (drop (w.size * i) b)
+    lent = take (length b - size * i) (drop (size * i) b)
 
     abbrev m : List ℕ
     m = drop (w.size * i) b
 
-    room : w.size * i + w.size ≤ length b
-    room = omega (arith, mul-add w.size i 1, mul-one w.size, mul-le-mul_left {m = i + 1} {n = n} w.size (omega arith))
+    left : size * i + size ≤ length b
+    left = room size n i (length b) h l
 
     lent_is : lent ≡ m
-    lent_is = take_all (length b - w.size * i) m (omega (arith, length-drop (w.size * i) b))
+    lent_is = take_all (length b - size * i) (drop (size * i) b) (omega (arith, length-drop (size * i) b)) ∙ ap (λ (k : ℕ). drop (k * i) b) (sym e)
 
     here_long : w.size ≤ length m
-    here_long = omega (arith, room, length-drop (w.size * i) b)
-
-    pub lent_long : w.size ≤ length lent
-    lent_long = omega (arith, ap length lent_is, here_long)
+    here_long = subst (λ (k : ℕ). k ≤ length (drop (k * i) b)) (sym e) (omega (arith, left, length-drop (size * i) b))
 
     pub turn_stops : {code : ℕ} {after : List ℕ} → Queued w.store w.rule store lent code after → (code ≡ 0 → ⊥) → Stopped w.store (w.writes n b (w.store.get before) 0) code i after
     turn_stops {code} d z =
         let c : code ≡ w.rule held m = d.code_is ∙ ap (w.rule held) lent_is in
-        ends (u.same ∙ stopped w n i b held code h c z) (d.store_is ∙ ap w.store.put (left_as_they_are _ held lent (λ y. z (d.code_is ∙ y))))
+        ends (u.same ∙ stopped k n i b held code h c z) (d.store_is ∙ ap w.store.put (left_as_they_are _ held lent (λ y. z (d.code_is ∙ y))))
 
-    pub turn_more : {code : ℕ} {after : List ℕ} → Queued w.store w.rule store lent code after → code ≡ 0 → T (all is_byte b) → Turn w n b before after (i + 1)
-    turn_more {code} {after} d z t =
-        let c : w.rule held m ≡ 0 = sym (d.code_is ∙ ap (w.rule held) lent_is) ∙ z in
+    pub turn_more : {after : List ℕ} → Queued w.store w.rule store lent 0 after → T (all is_byte b) → Turn w n b before after (i + 1)
+    turn_more {after} d t =
+        let c : w.rule held m ≡ 0 = sym (d.code_is ∙ ap (w.rule held) lent_is) in
         let next : List Rec = held ++ clean m ∷ [] in
-        let e : after ≡ w.store.put next = d.store_is ∙ ap (λ (x : List ℕ). w.store.put (queued (w.rule held x) held x)) lent_is ∙ ap w.store.put (one_queued _ held m c) in
-        let k : T (w.store.ok next) = w.more_ok held m c here_long (all_drop is_byte (w.size * i) b t) (w.lawful.ok_get store u.long u.valid) in
+        let a : after ≡ w.store.put next = d.store_is ∙ ap (λ (x : List ℕ). w.store.put (queued (w.rule held x) held x)) lent_is ∙ ap w.store.put (one_queued _ held m c) in
+        let o : T (w.store.ok next) = k.more_ok held m c here_long (all_drop is_byte (w.size * i) b t) (k.lawful.ok_get store u.part.long u.part.valid) in
         record {
-          some_left = omega arith;
-          long = ap length e ∙ w.lawful.long next k;
-          valid = subst (λ (x : List ℕ). T (w.store.valid x)) (sym e) (w.lawful.valid_put next k);
-          same = u.same ∙ turned w n i b held h c ∙ ap (λ (x : List Rec). w.writes (n - (i + 1)) (drop (w.size * (i + 1)) b) x (i + 1)) (sym (ap w.store.get e ∙ w.lawful.get_put next k));
+          part = record { long = ap length a ∙ k.lawful.long next o; valid = subst (λ (x : List ℕ). T (w.store.valid x)) (sym a) (k.lawful.valid_put next o) };
+          same = u.same ∙ turned k n i b held h c ∙ ap (λ (x : List Rec). w.writes (n - (i + 1)) (drop (w.size * (i + 1)) b) x (i + 1)) (sym (ap w.store.get a ∙ k.lawful.get_put next o));
         }

@@ -28,8 +28,8 @@ use Rattle.layout.proofs.Good.{fl}
 use Rattle.layout.proofs.Region.{open_of, moves, stays, word_of, flags_part, written_part}
 use Rattle.stores.specs.Written.{written, WrittenPart}
 use Rattle.stores.proofs.Written.{holds, holds_ok, holds_is, holds_count}
-use Rattle.writing.specs.Store.{Queued, Stopped}
-use Rattle.writing.proofs.Loop.{Kind, Turn, one_queued, refused_as, no_turn}
+use Rattle.writing.specs.Store.{Queued, Stopped, StorePart, Laws, raw}
+use Rattle.writing.proofs.Loop.{one_queued, refused_as}
 
 -- ---- one message
 
@@ -95,24 +95,20 @@ unfolding writing
 one_left flags n b held count = refl
 
 -- a write of raw CAN, on no listener
-abbrev pub raw : (flags : ℕ) → T (not (listens flags)) → Kind
-raw flags may =
+pub raw_laws : (flags : ℕ) → T (not (listens flags)) → Laws (raw flags)
+raw_laws flags may =
     record {
-      store = written flags;
       lawful = up_to_lawful (out_lawful flags) most_written;
-      size = record_size;
-      rule = write_code flags;
-      writes = writing flags;
       none_left = none_left flags;
       one_left = one_left flags;
       more_ok = more_ok flags may;
     }
 
-pub turn_part : {flags n : ℕ} (may : T (not (listens flags))) {b before store : List ℕ} {i : ℕ} → Turn (raw flags may) n b before store i → WrittenPart flags store
-turn_part {flags} may u = record { long = u.long ∙ written_size_law flags; valid = u.valid }
+pub part_is : {flags : ℕ} {m : List ℕ} → WrittenPart flags m → StorePart (raw flags) m
+part_is {flags} w = record { long = w.long ∙ sym (written_size_law flags); valid = w.valid }
 
-pub first_turn : {flags : ℕ} {store : List ℕ} (may : T (not (listens flags))) (n : ℕ) (b : List ℕ) → WrittenPart flags store → Turn (raw flags may) n b store store 0
-first_turn {flags} may n b w = no_turn (raw flags may) n b (w.long ∙ sym (written_size_law flags)) w.valid
+pub is_part : {flags : ℕ} {m : List ℕ} → StorePart (raw flags) m → WrittenPart flags m
+is_part {flags} w = record { long = w.long ∙ written_size_law flags; valid = w.valid }
 
 -- ---- on the region of an open channel
 

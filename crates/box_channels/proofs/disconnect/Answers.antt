@@ -1,48 +1,13 @@
--- `box_channels::disconnect` meets its contract. Assumes nothing.
+-- `box_channels::disconnect` meets its contract: the functions on the regions do what the call does. Assumes nothing.
+use mathlib.Core.Path.{refl}
+use Rattle.std.proofs.Common.{rules}
 use Rattle.machine.specs.Channel.{lent, disconnect}
-use mathlib.Core.Path.{◌≡◌, refl}
-use native.Mathlib.Omega.{arith}
-use lib.ListN.{length}
-use Rattle.layout.specs.Sizes.{region_size}
-use Rattle.layout.specs.Promise as raw_promise
-use Rattle.iso_layout.specs.Sizes.{iso_region_size}
-use Rattle.memory.specs.Promise.{noted_in}
-use Rattle.memory.proofs.Seats.{raw_ends, raw_lent_law, raw_called, iso_ends, iso_lent, iso_called}
 use Rattle.box_channels.proofs.disconnect.Goals as goal
 
--- the code is 0x00, so that nothing is noted
-pub returns-then-a-lt-ISO_REGIONS : goal.returns-then-a-lt-ISO_REGIONS
-unfolding raw_promise.noted_in
-returns-then-a-lt-ISO_REGIONS c rates =
-    let seat = c.region_of-a.ensures.raw c.if-a-eq0.false c.if-a-lt-ISO_REGIONS.true in
-    let long : length c.disconnect_in.new.r ≡ region_size = omega arith in
-    raw_called _ c.requires _ _ seat rates _ refl _ _ _ _ _ long (c.disconnect_in.ensures rates _) refl
-
 pub returns : goal.returns
-unfolding noted_in
-returns c rates =
-    let seat = c.region_of-a.ensures.iso c.if-a-lt-ISO_REGIONS.false in
-    let long : length c.disconnect_in-2.new.r ≡ iso_region_size = omega arith in
-    iso_called _ c.requires _ _ seat rates _ _ _ _ _ _ long (c.disconnect_in-2.ensures rates _) refl refl
-
-pub returns-then-a-eq0 : goal.returns-then-a-eq0
 unfolding lent
-returns-then-a-eq0 c rates = c.region_of-a.ensures.refused c.if-a-eq0.true rates disconnect
-
-pub overflow_add-a : goal.overflow_add-a
-overflow_add-a c = omega arith
-
-pub slice_bounds-disconnect_in-end : goal.slice_bounds-disconnect_in-end
-slice_bounds-disconnect_in-end c = raw_ends _ c.requires _ _ (c.region_of-a.ensures.raw c.if-a-eq0.false c.if-a-lt-ISO_REGIONS.true)
-
-pub disconnect_in-requires : goal.disconnect_in-requires
-disconnect_in-requires c = raw_lent_law _ c.requires _ _ (c.region_of-a.ensures.raw c.if-a-eq0.false c.if-a-lt-ISO_REGIONS.true)
-
-pub overflow_add-a-2 : goal.overflow_add-a-2
-overflow_add-a-2 c = omega (arith, c.region_of-a.ensures.iso c.if-a-lt-ISO_REGIONS.false)
-
-pub slice_bounds-disconnect_in-end-2 : goal.slice_bounds-disconnect_in-end-2
-slice_bounds-disconnect_in-end-2 c = iso_ends _ c.requires _ _ (c.region_of-a.ensures.iso c.if-a-lt-ISO_REGIONS.false)
-
-pub disconnect_in-requires-2 : goal.disconnect_in-requires-2
-disconnect_in-requires-2 c = iso_lent _ c.requires _ _ (c.region_of-a.ensures.iso c.if-a-lt-ISO_REGIONS.false)
+returns c rates =
+    c.on_channel.ensures rates disconnect (λ _. 0)
+    (record { speaks_so = refl; done = λ r r' a o d. search rules })
+    (record { both = refl; done = λ r r' a o d. search rules })
+    (λ _. refl) refl

@@ -1,55 +1,13 @@
--- `box_channels::set` meets its contract. Assumes nothing.
+-- `box_channels::set` meets its contract: the functions on the regions do what the call does. Assumes nothing.
+use mathlib.Core.Path.{refl}
+use Rattle.std.proofs.Common.{rules}
 use Rattle.machine.specs.Channel.{lent, set_parameter}
-use mathlib.Core.Path.{◌≡◌, refl}
-use native.Mathlib.Omega.{arith}
-use lib.ListN.{length}
-use Rattle.layout.specs.Sizes.{region_size}
-use Rattle.iso_layout.specs.Sizes.{iso_region_size}
-use Rattle.memory.proofs.Seats.{raw_ends, raw_lent_law, raw_noted, raw_called, iso_ends, iso_lent, iso_noted_law, iso_called}
 use Rattle.box_channels.proofs.set.Goals as goal
 
-pub note-requires : goal.note-requires
-note-requires c =
-    let seat = c.region_of-a.ensures.raw c.if-a-eq0.false c.if-a-lt-ISO_REGIONS.true in
-    let long : length c.set_in-code.new.r ≡ region_size = omega arith in
-    raw_noted _ c.requires _ _ seat _ _ _ _ _ _ (c.set_in-code.ensures _) long
-
-pub returns-then-a-lt-ISO_REGIONS : goal.returns-then-a-lt-ISO_REGIONS
-returns-then-a-lt-ISO_REGIONS c =
-    let seat = c.region_of-a.ensures.raw c.if-a-eq0.false c.if-a-lt-ISO_REGIONS.true in
-    let long : length c.set_in-code.new.r ≡ region_size = omega arith in
-    raw_called _ c.requires _ _ seat _ _ refl _ _ _ _ _ long (c.set_in-code.ensures _) c.note.ensures
-
-pub note-requires-2 : goal.note-requires-2
-note-requires-2 c =
-    let seat = c.region_of-a.ensures.iso c.if-a-lt-ISO_REGIONS.false in
-    let long : length c.set_in-code-2.new.r ≡ iso_region_size = omega arith in
-    iso_noted_law _ c.requires _ _ seat _ _ _ _ _ _ (c.set_in-code-2.ensures _) long
-
 pub returns : goal.returns
-returns c =
-    let seat = c.region_of-a.ensures.iso c.if-a-lt-ISO_REGIONS.false in
-    let long : length c.set_in-code-2.new.r ≡ iso_region_size = omega arith in
-    iso_called _ c.requires _ _ seat _ _ _ _ _ _ _ long (c.set_in-code-2.ensures _) c.note-2.ensures refl
-
-pub returns-then-a-eq0 : goal.returns-then-a-eq0
 unfolding lent
-returns-then-a-eq0 c = c.region_of-a.ensures.refused c.if-a-eq0.true c.args.rates.now (set_parameter c.args.parameter c.args.value)
-
-pub overflow_add-a : goal.overflow_add-a
-overflow_add-a c = omega arith
-
-pub slice_bounds-set_in-end : goal.slice_bounds-set_in-end
-slice_bounds-set_in-end c = raw_ends _ c.requires _ _ (c.region_of-a.ensures.raw c.if-a-eq0.false c.if-a-lt-ISO_REGIONS.true)
-
-pub set_in-code-requires : goal.set_in-code-requires
-set_in-code-requires c = raw_lent_law _ c.requires _ _ (c.region_of-a.ensures.raw c.if-a-eq0.false c.if-a-lt-ISO_REGIONS.true)
-
-pub overflow_add-a-2 : goal.overflow_add-a-2
-overflow_add-a-2 c = omega (arith, c.region_of-a.ensures.iso c.if-a-lt-ISO_REGIONS.false)
-
-pub slice_bounds-set_in-end-2 : goal.slice_bounds-set_in-end-2
-slice_bounds-set_in-end-2 c = iso_ends _ c.requires _ _ (c.region_of-a.ensures.iso c.if-a-lt-ISO_REGIONS.false)
-
-pub set_in-code-requires-2 : goal.set_in-code-requires-2
-set_in-code-requires-2 c = iso_lent _ c.requires _ _ (c.region_of-a.ensures.iso c.if-a-lt-ISO_REGIONS.false)
+returns c =
+    c.on_channel.ensures c.args.rates.now (set_parameter c.args.parameter c.args.value) (λ _. 0)
+    (record { speaks_so = refl; done = λ r r' a o d. search rules })
+    (record { both = refl; done = λ r r' a o d. search rules })
+    (λ _. refl) refl

@@ -1,57 +1,18 @@
 -- `box_orders::start_flow_filter` meets its contract: on a raw region the third record is not looked at. Assumes nothing.
-use Rattle.machine.specs.Channel.{lent, start_flow}
 use mathlib.Core.Path.{◌≡◌, refl, ◌∙◌}
 use mathlib.Core.List.{[]}
-use native.Mathlib.Omega.{arith}
-use lib.ListN.{length}
-use Rattle.layout.specs.Sizes.{region_size}
-use Rattle.iso_layout.specs.Sizes.{iso_region_size}
-use Rattle.memory.proofs.Seats.{raw_ends, raw_lent_law, raw_noted, raw_called, iso_ends, iso_lent, iso_noted_law, iso_called}
+use Rattle.std.proofs.Common.{rules}
+use Rattle.codes.specs.Code.{code_of, value_of}
+use Rattle.machine.specs.Channel.{lent, start_filter, start_flow}
+use Rattle.layout.specs.Promise.{gives, call_outcome}
+use Rattle.memory.specs.Memory.{load}
 use Rattle.box_orders.proofs.Laws.{no_look}
 use Rattle.box_orders.proofs.start_flow_filter.Goals as goal
 
-pub note-requires : goal.note-requires
-note-requires c =
-    let seat = c.region_of-a.ensures.raw c.if-a-eq0.false c.if-a-lt-ISO_REGIONS.true in
-    let long : length c.start_filter-answer.new.r ≡ region_size = omega arith in
-    raw_noted _ c.requires _ _ seat [] _ _ _ _ _ (c.start_filter-answer.ensures [] _) long
-
-pub returns-then-a-lt-ISO_REGIONS : goal.returns-then-a-lt-ISO_REGIONS
-returns-then-a-lt-ISO_REGIONS c rates =
-    let seat = c.region_of-a.ensures.raw c.if-a-eq0.false c.if-a-lt-ISO_REGIONS.true in
-    let long : length c.start_filter-answer.new.r ≡ region_size = omega arith in
-    raw_called _ c.requires _ _ seat rates _ refl _ _ _ _ _ long (c.start_filter-answer.ensures rates _ ∙ no_look _ _ _ _ _ _ _) c.note.ensures
-
-pub note-requires-2 : goal.note-requires-2
-note-requires-2 c =
-    let seat = c.region_of-a.ensures.iso c.if-a-lt-ISO_REGIONS.false in
-    let long : length c.start_in-answer.new.r ≡ iso_region_size = omega arith in
-    iso_noted_law _ c.requires _ _ seat [] _ _ _ _ _ (c.start_in-answer.ensures [] _) long
-
 pub returns : goal.returns
-returns c rates =
-    let seat = c.region_of-a.ensures.iso c.if-a-lt-ISO_REGIONS.false in
-    let long : length c.start_in-answer.new.r ≡ iso_region_size = omega arith in
-    iso_called _ c.requires _ _ seat rates _ _ _ _ _ _ long (c.start_in-answer.ensures rates _) c.note-2.ensures refl
-
-pub returns-then-a-eq0 : goal.returns-then-a-eq0
 unfolding lent
-returns-then-a-eq0 c rates = c.region_of-a.ensures.refused c.if-a-eq0.true rates (start_flow c.args.kind c.args.mask.now c.args.pattern.now c.args.flow.now)
-
-pub overflow_add-a : goal.overflow_add-a
-overflow_add-a c = omega arith
-
-pub slice_bounds-start_filter-end : goal.slice_bounds-start_filter-end
-slice_bounds-start_filter-end c = raw_ends _ c.requires _ _ (c.region_of-a.ensures.raw c.if-a-eq0.false c.if-a-lt-ISO_REGIONS.true)
-
-pub start_filter-answer-requires : goal.start_filter-answer-requires
-start_filter-answer-requires c = raw_lent_law _ c.requires _ _ (c.region_of-a.ensures.raw c.if-a-eq0.false c.if-a-lt-ISO_REGIONS.true)
-
-pub overflow_add-a-2 : goal.overflow_add-a-2
-overflow_add-a-2 c = omega (arith, c.region_of-a.ensures.iso c.if-a-lt-ISO_REGIONS.false)
-
-pub slice_bounds-start_in-end : goal.slice_bounds-start_in-end
-slice_bounds-start_in-end c = iso_ends _ c.requires _ _ (c.region_of-a.ensures.iso c.if-a-lt-ISO_REGIONS.false)
-
-pub start_in-answer-requires : goal.start_in-answer-requires
-start_in-answer-requires c = iso_lent _ c.requires _ _ (c.region_of-a.ensures.iso c.if-a-lt-ISO_REGIONS.false)
+returns c rates =
+    c.on_channel.ensures rates (start_flow c.args.kind c.args.mask.now c.args.pattern.now c.args.flow.now) value_of
+    (record { speaks_so = refl; done = λ r r' a o d. let e : gives (code_of a) (value_of a) [] r' ≡ call_outcome rates (load c.args.mem.now).clock r (start_filter c.args.kind c.args.mask.now c.args.pattern.now) = search rules in e ∙ no_look _ _ _ _ _ _ _ })
+    (record { both = refl; done = λ r r' a o d. search rules })
+    (λ _. refl) refl

@@ -1,60 +1,14 @@
--- `box_orders::start_periodic` meets its contract. Assumes nothing.
-use Rattle.machine.specs.Channel.{start_periodic}
-use mathlib.Core.Path.{◌≡◌, refl, sym, ◌∙◌}
-use mathlib.Core.List.{[]}
-use native.Mathlib.Omega.{arith}
-use lib.Dec.{lit<}
-use lib.ListN.{length}
-use Rattle.machine.specs.Channel.{lent}
-use Rattle.layout.specs.Sizes.{region_size}
-use Rattle.memory.proofs.Seats.{raw_ends, raw_speaker, raw_noted, raw_called, raw_muted, iso_lent, iso_looked}
-use Rattle.box_orders.proofs.Laws.{iso_looked_noted}
+-- `box_orders::start_periodic` meets its contract: the functions on the regions do what the call does. Assumes nothing.
+use mathlib.Core.Path.{refl}
+use Rattle.std.proofs.Common.{rules}
+use Rattle.codes.specs.Code.{value_of}
+use Rattle.machine.specs.Channel.{lent, start_periodic}
 use Rattle.box_orders.proofs.start_periodic.Goals as goal
 
--- a listener
-pub note-requires : goal.note-requires
-note-requires c = (raw_ends _ c.requires _ _ (c.region_of-a.ensures.raw c.if-a-eq0.false c.if-a-lt-ISO_REGIONS.true), lit< tt)
-
-pub returns-then-listens : goal.returns-then-listens
-unfolding lent
-returns-then-listens c rates =
-    raw_muted _ c.requires _ _ (c.region_of-a.ensures.raw c.if-a-eq0.false c.if-a-lt-ISO_REGIONS.true) (sym c.listens.ensures ∙ c.if-listens.true) rates _ refl _ c.note.ensures
-
--- any other raw channel
-pub note-requires-then-a-lt-ISO_REGIONS : goal.note-requires-then-a-lt-ISO_REGIONS
-note-requires-then-a-lt-ISO_REGIONS c =
-    let long : length c.start_periodic-answer.new.r ≡ region_size = omega arith in
-    raw_noted _ c.requires _ _ (c.region_of-a.ensures.raw c.if-a-eq0.false c.if-a-lt-ISO_REGIONS.true) [] _ _ _ _ _ (c.start_periodic-answer.ensures [] _) long
-
-pub returns-then-a-lt-ISO_REGIONS : goal.returns-then-a-lt-ISO_REGIONS
-returns-then-a-lt-ISO_REGIONS c rates =
-    let may = sym c.listens.ensures ∙ c.if-listens.false in
-    let long : length c.start_periodic-answer.new.r ≡ region_size = omega arith in
-    raw_called _ c.requires _ _ (c.region_of-a.ensures.raw c.if-a-eq0.false c.if-a-lt-ISO_REGIONS.true) rates _ may _ _ _ _ _ long (c.start_periodic-answer.ensures rates _) c.note-then-a-lt-ISO_REGIONS.ensures
-
--- an ISO 15765 channel
-pub note-requires-2 : goal.note-requires-2
-note-requires-2 c =
-    let seat = c.region_of-a.ensures.iso c.if-a-lt-ISO_REGIONS.false in
-    iso_looked_noted _ c.requires _ _ seat [] _ _ _ _ (c.start_in-code.ensures _ (iso_lent _ c.requires _ _ seat) [] _ 0)
-
 pub returns : goal.returns
-returns c rates =
-    let seat = c.region_of-a.ensures.iso c.if-a-lt-ISO_REGIONS.false in
-    iso_looked _ c.requires _ _ seat rates _ _ _ _ (c.start_in-code.ensures _ (iso_lent _ c.requires _ _ seat) rates _ _) _ c.note-2.ensures refl
-
-pub returns-then-a-eq0 : goal.returns-then-a-eq0
 unfolding lent
-returns-then-a-eq0 c rates = c.region_of-a.ensures.refused c.if-a-eq0.true rates (start_periodic c.args.message.now c.args.interval)
-
-pub listens-requires : goal.listens-requires
-listens-requires c = raw_ends _ c.requires _ _ (c.region_of-a.ensures.raw c.if-a-eq0.false c.if-a-lt-ISO_REGIONS.true)
-
-pub overflow_add-a : goal.overflow_add-a
-overflow_add-a c = omega arith
-
-pub slice_bounds-start_periodic-end : goal.slice_bounds-start_periodic-end
-slice_bounds-start_periodic-end c = raw_ends _ c.requires _ _ (c.region_of-a.ensures.raw c.if-a-eq0.false c.if-a-lt-ISO_REGIONS.true)
-
-pub start_periodic-answer-requires : goal.start_periodic-answer-requires
-start_periodic-answer-requires c = raw_speaker _ c.requires _ _ (c.region_of-a.ensures.raw c.if-a-eq0.false c.if-a-lt-ISO_REGIONS.true) (sym c.listens.ensures ∙ c.if-listens.false)
+returns c rates =
+    c.on_channel.ensures rates (start_periodic c.args.message.now c.args.interval) value_of
+    (record { speaks_so = refl; done = λ r r' a o d. search rules })
+    (record { both = refl; done = λ r r' a o d. search rules })
+    (λ _. refl) refl

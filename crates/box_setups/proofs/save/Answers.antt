@@ -1,33 +1,23 @@
 -- `box_setups::save` meets its contract. Assumes nothing.
-use mathlib.Core.Path.{refl}
-use mathlib.Core.List.{[]}
-use native.Mathlib.Omega.{arith}
-use Rattle.machine.specs.Channel.{lent, raw_lent}
-use Rattle.memory.proofs.Seats.{raw_ends, raw_lent_law, raw_noted, raw_looked}
+use mathlib.Core.Path.{refl, sym}
+use Rattle.machine.specs.Channel.{lent, raw_lent, save_setup}
+use Rattle.memory.proofs.Seats.{raw_ends, raw_lent_law, raw_looked}
+use Rattle.noting.proofs.Laws.{by_code}
 use Rattle.box_setups.proofs.save.Goals as goal
 
+pub returns-in_default : goal.returns-in_default
+unfolding lent raw_lent
+returns-in_default c rates = c.in_default.ensures rates (save_setup c.args.buffer.now) refl
+
+pub slice_bounds-save_in-end : goal.slice_bounds-save_in-end
+slice_bounds-save_in-end c = raw_ends _ c.requires _ _ c.in-Some.ensures
+
+pub save_in-saved-requires : goal.save_in-saved-requires
+save_in-saved-requires c = raw_lent_law _ c.requires _ _ c.in-Some.ensures
+
 pub note-requires : goal.note-requires
-note-requires c =
-    let seat = c.raw_region_of-a.ensures.seat c.if-a-eq0.false in
-    (raw_ends _ c.requires _ _ seat, (raw_noted _ c.requires _ _ seat [] _ _ _ _ _ (c.save_in-saved.ensures [] _) (raw_lent_law _ c.requires _ _ seat).long).1)
+note-requires c = (raw_ends _ c.requires _ _ c.in-Some.ensures, c.code_of.ensures.1)
 
 pub returns : goal.returns
 returns c rates =
-    let seat = c.raw_region_of-a.ensures.seat c.if-a-eq0.false in
-    raw_looked _ c.requires _ _ seat rates _ refl _ _ _ (c.save_in-saved.ensures rates _) _ c.note.ensures
-
-pub returns-then-a-eq0 : goal.returns-then-a-eq0
-unfolding lent raw_lent
-returns-then-a-eq0 c rates = c.raw_region_of-a.ensures.refused c.if-a-eq0.true rates _ refl
-
-pub overflow_add-a : goal.overflow_add-a
-unfolding lent raw_lent
-overflow_add-a c = let s = c.raw_region_of-a.ensures.seat c.if-a-eq0.false in omega (arith, s.is, s.low, s.high)
-
-pub slice_bounds-save_in-end : goal.slice_bounds-save_in-end
-unfolding lent raw_lent
-slice_bounds-save_in-end c = raw_ends _ c.requires _ _ (c.raw_region_of-a.ensures.seat c.if-a-eq0.false)
-
-pub save_in-saved-requires : goal.save_in-saved-requires
-unfolding lent raw_lent
-save_in-saved-requires c = raw_lent_law _ c.requires _ _ (c.raw_region_of-a.ensures.seat c.if-a-eq0.false)
+    by_code (sym c.code_of.ensures.0) (raw_looked _ c.requires _ _ c.in-Some.ensures rates _ refl _ _ _ (by_code c.code_of.ensures.0 (c.save_in-saved.ensures rates _)) _ c.note.ensures)

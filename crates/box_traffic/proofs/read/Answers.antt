@@ -1,56 +1,40 @@
 -- `box_traffic::read` meets its contract. Assumes nothing.
-use Rattle.machine.specs.Channel.{lent, read}
-use mathlib.Core.Path.{◌≡◌, refl}
-use mathlib.Core.List.{[]}
+use Rattle.machine.specs.Channel.{read, lent}
+use mathlib.Core.Path.{◌≡◌, refl, sym}
 use native.Mathlib.Omega.{arith}
 use lib.ListN.{length}
 use Rattle.layout.specs.Sizes.{region_size}
 use Rattle.iso_layout.specs.Sizes.{iso_region_size}
-use Rattle.memory.proofs.Seats.{raw_ends, raw_lent_law, raw_noted, raw_called, iso_ends, iso_lent, iso_noted_law, iso_called}
+use Rattle.memory.proofs.Seats.{raw_ends, raw_lent_law, raw_called, iso_ends, iso_lent, iso_called}
+use Rattle.seats.proofs.Laws.{raw_seat, iso_seat}
+use Rattle.noting.proofs.Laws.{by_code}
 use Rattle.box_traffic.proofs.read.Goals as goal
 
-pub note-requires : goal.note-requires
-note-requires c =
-    let seat = c.region_of-a.ensures.raw c.if-a-eq0.false c.if-a-lt-ISO_REGIONS.true in
-    let long : length c.read_in-answer.new.r ≡ region_size = omega arith in
-    raw_noted _ c.requires _ _ seat [] _ _ _ _ _ (c.read_in-answer.ensures [] _) long
-
-pub returns-then-a-lt-ISO_REGIONS : goal.returns-then-a-lt-ISO_REGIONS
-returns-then-a-lt-ISO_REGIONS c rates =
-    let seat = c.region_of-a.ensures.raw c.if-a-eq0.false c.if-a-lt-ISO_REGIONS.true in
-    let long : length c.read_in-answer.new.r ≡ region_size = omega arith in
-    raw_called _ c.requires _ _ seat rates _ refl _ _ _ _ _ long (c.read_in-answer.ensures rates _) c.note.ensures
-
-pub note-requires-2 : goal.note-requires-2
-note-requires-2 c =
-    let seat = c.region_of-a.ensures.iso c.if-a-lt-ISO_REGIONS.false in
-    let long : length c.read_in-answer-2.new.r ≡ iso_region_size = omega arith in
-    iso_noted_law _ c.requires _ _ seat [] _ _ _ _ _ (c.read_in-answer-2.ensures [] _) long
-
-pub returns : goal.returns
-returns c rates =
-    let seat = c.region_of-a.ensures.iso c.if-a-lt-ISO_REGIONS.false in
-    let long : length c.read_in-answer-2.new.r ≡ iso_region_size = omega arith in
-    iso_called _ c.requires _ _ seat rates _ _ _ _ _ _ long (c.read_in-answer-2.ensures rates _) c.note-2.ensures refl
-
-pub returns-then-a-eq0 : goal.returns-then-a-eq0
-unfolding lent
-returns-then-a-eq0 c rates = c.region_of-a.ensures.refused c.if-a-eq0.true rates (read c.args.n c.args.buffer.now)
-
-pub overflow_add-a : goal.overflow_add-a
-overflow_add-a c = omega arith
-
+-- any other raw channel
 pub slice_bounds-read_in-end : goal.slice_bounds-read_in-end
-slice_bounds-read_in-end c = raw_ends _ c.requires _ _ (c.region_of-a.ensures.raw c.if-a-eq0.false c.if-a-lt-ISO_REGIONS.true)
+slice_bounds-read_in-end c = raw_ends _ c.requires _ _ (raw_seat _ _ _ c.in-Some-Raw.field-0-is c.in-Some-Raw.ensures)
 
-pub read_in-answer-requires : goal.read_in-answer-requires
-read_in-answer-requires c = raw_lent_law _ c.requires _ _ (c.region_of-a.ensures.raw c.if-a-eq0.false c.if-a-lt-ISO_REGIONS.true)
+pub read_in-moved-requires : goal.read_in-moved-requires
+read_in-moved-requires c = raw_lent_law _ c.requires _ _ (raw_seat _ _ _ c.in-Some-Raw.field-0-is c.in-Some-Raw.ensures)
 
-pub overflow_add-a-2 : goal.overflow_add-a-2
-overflow_add-a-2 c = omega (arith, c.region_of-a.ensures.iso c.if-a-lt-ISO_REGIONS.false)
+pub returns-in-Some-Raw : goal.returns-in-Some-Raw
+returns-in-Some-Raw c rates =
+    let long : length c.read_in-moved.new.r ≡ region_size = omega arith in
+    by_code (sym c.code_of.ensures.0) (raw_called _ c.requires _ _ (raw_seat _ _ _ c.in-Some-Raw.field-0-is c.in-Some-Raw.ensures) rates _ refl _ _ _ _ _ long (by_code c.code_of.ensures.0 (c.read_in-moved.ensures rates _)) c.note.ensures)
 
-pub slice_bounds-read_in-end-2 : goal.slice_bounds-read_in-end-2
-slice_bounds-read_in-end-2 c = iso_ends _ c.requires _ _ (c.region_of-a.ensures.iso c.if-a-lt-ISO_REGIONS.false)
+-- an ISO 15765 channel
+pub slice_bounds-read_in-end-in-Some-Iso : goal.slice_bounds-read_in-end-in-Some-Iso
+slice_bounds-read_in-end-in-Some-Iso c = iso_ends _ c.requires _ _ (iso_seat _ _ _ c.in-Some-Iso.field-0-is c.in-Some-Iso.ensures)
 
-pub read_in-answer-requires-2 : goal.read_in-answer-requires-2
-read_in-answer-requires-2 c = iso_lent _ c.requires _ _ (c.region_of-a.ensures.iso c.if-a-lt-ISO_REGIONS.false)
+pub read_in-moved-requires-in-Some-Iso : goal.read_in-moved-requires-in-Some-Iso
+read_in-moved-requires-in-Some-Iso c = iso_lent _ c.requires _ _ (iso_seat _ _ _ c.in-Some-Iso.field-0-is c.in-Some-Iso.ensures)
+
+pub returns-in-Some-Iso : goal.returns-in-Some-Iso
+returns-in-Some-Iso c rates =
+    let long : length c.read_in-moved-in-Some-Iso.new.r ≡ iso_region_size = omega arith in
+    by_code (sym c.code_of-in-Some-Iso.ensures.0) (iso_called _ c.requires _ _ (iso_seat _ _ _ c.in-Some-Iso.field-0-is c.in-Some-Iso.ensures) rates _ _ _ _ _ _ long (by_code c.code_of-in-Some-Iso.ensures.0 (c.read_in-moved-in-Some-Iso.ensures rates _)) c.note-in-Some-Iso.ensures refl)
+
+-- none
+pub returns-in-None : goal.returns-in-None
+unfolding lent
+returns-in-None c rates = c.in-None.ensures rates (read c.args.n c.args.buffer.now)

@@ -1,76 +1,23 @@
--- `box_traffic::sent` meets its contract. Assumes nothing.
-use Rattle.machine.specs.Channel.{sent}
-use mathlib.Core.Path.{◌≡◌, refl, sym, ◌∙◌}
+-- `box_traffic::sent` meets its contract: the functions on the regions do what the call does. Assumes nothing.
+use mathlib.Core.Path.{◌≡◌, refl}
 use mathlib.Core.List.{[]}
 use native.Mathlib.Omega.{arith}
-use lib.Dec.{lit<}
-use lib.ListN.{length}
-use Rattle.machine.specs.Channel.{lent}
-use Rattle.layout.specs.Sizes.{region_size}
-use Rattle.iso_layout.specs.Sizes.{iso_region_size}
-use Rattle.memory.proofs.Seats.{raw_ends, raw_lent_law, raw_noted, raw_called, raw_muted, iso_ends, iso_lent, iso_noted_law, iso_called}
+use Rattle.std.proofs.Common.{rules}
+use Rattle.machine.specs.Channel.{lent, sent}
+use Rattle.codes.specs.Code.{code_of}
+use Rattle.layout.specs.Promise.{gives, call_outcome}
+use Rattle.iso_layout.specs.Promise.{iso_outcome}
 use Rattle.memory.proofs.Memory.{valid_long}
 use Rattle.box_traffic.proofs.Laws.{raw_at_clock, iso_at_clock}
 use Rattle.box_traffic.proofs.sent.Goals as goal
 
--- a listener
-pub note-requires : goal.note-requires
-note-requires c = (raw_ends _ c.requires _ _ (c.region_of-a.ensures.raw c.if-a-eq0.false c.if-a-lt-ISO_REGIONS.true), lit< tt)
-
-pub returns-then-listens : goal.returns-then-listens
-unfolding lent
-returns-then-listens c rates =
-    raw_muted _ c.requires _ _ (c.region_of-a.ensures.raw c.if-a-eq0.false c.if-a-lt-ISO_REGIONS.true) (sym c.listens.ensures ∙ c.if-listens.true) rates _ refl _ c.note.ensures
-
--- any other raw channel
-pub note-requires-then-a-lt-ISO_REGIONS : goal.note-requires-then-a-lt-ISO_REGIONS
-note-requires-then-a-lt-ISO_REGIONS c =
-    let long : length c.sent-code.new.r ≡ region_size = omega arith in
-    raw_noted _ c.requires _ _ (c.region_of-a.ensures.raw c.if-a-eq0.false c.if-a-lt-ISO_REGIONS.true) [] _ _ _ _ _ (raw_at_clock _ c.requires [] _ _ _ _ _ _ _ c.word_at-now.ensures.0 (c.sent-code.ensures [])) long
-
-pub returns-then-a-lt-ISO_REGIONS : goal.returns-then-a-lt-ISO_REGIONS
-returns-then-a-lt-ISO_REGIONS c rates =
-    let may = sym c.listens.ensures ∙ c.if-listens.false in
-    let long : length c.sent-code.new.r ≡ region_size = omega arith in
-    raw_called _ c.requires _ _ (c.region_of-a.ensures.raw c.if-a-eq0.false c.if-a-lt-ISO_REGIONS.true) rates _ may _ _ _ _ _ long (raw_at_clock _ c.requires rates _ _ _ _ _ _ _ c.word_at-now.ensures.0 (c.sent-code.ensures rates)) c.note-then-a-lt-ISO_REGIONS.ensures
-
--- an ISO 15765 channel
-pub note-requires-2 : goal.note-requires-2
-note-requires-2 c =
-    let seat = c.region_of-a.ensures.iso c.if-a-lt-ISO_REGIONS.false in
-    let long : length c.sent-code-2.new.r ≡ iso_region_size = omega arith in
-    iso_noted_law _ c.requires _ _ seat [] _ _ _ _ _ (iso_at_clock _ c.requires [] _ _ _ _ _ _ _ c.word_at-now.ensures.0 (c.sent-code-2.ensures [])) long
-
 pub returns : goal.returns
-returns c rates =
-    let seat = c.region_of-a.ensures.iso c.if-a-lt-ISO_REGIONS.false in
-    let long : length c.sent-code-2.new.r ≡ iso_region_size = omega arith in
-    iso_called _ c.requires _ _ seat rates _ _ _ _ _ _ long (iso_at_clock _ c.requires rates _ _ _ _ _ _ _ c.word_at-now.ensures.0 (c.sent-code-2.ensures rates)) c.note-2.ensures refl
-
-pub returns-then-a-eq0 : goal.returns-then-a-eq0
 unfolding lent
-returns-then-a-eq0 c rates = c.region_of-a.ensures.refused c.if-a-eq0.true rates sent
+returns c rates =
+    c.on_channel.ensures rates sent (λ _. 0)
+    (record { speaks_so = refl; done = λ r r' a o d. let e : gives (code_of a) 0 [] r' ≡ call_outcome rates c.word_at-now.result r sent = search rules in raw_at_clock _ c.requires rates _ _ _ _ _ _ _ c.word_at-now.ensures.0 e })
+    (record { both = refl; done = λ r r' a o d. let e : gives (code_of a) 0 [] r' ≡ iso_outcome rates c.word_at-now.result r sent = search rules in iso_at_clock _ c.requires rates _ _ _ _ _ _ _ c.word_at-now.ensures.0 e })
+    (λ _. refl) refl
 
 pub word_at-now-requires : goal.word_at-now-requires
 word_at-now-requires c = omega (arith, valid_long _ c.requires)
-
-pub listens-requires : goal.listens-requires
-listens-requires c = raw_ends _ c.requires _ _ (c.region_of-a.ensures.raw c.if-a-eq0.false c.if-a-lt-ISO_REGIONS.true)
-
-pub overflow_add-a : goal.overflow_add-a
-overflow_add-a c = omega arith
-
-pub slice_bounds-sent-end : goal.slice_bounds-sent-end
-slice_bounds-sent-end c = raw_ends _ c.requires _ _ (c.region_of-a.ensures.raw c.if-a-eq0.false c.if-a-lt-ISO_REGIONS.true)
-
-pub sent-code-requires : goal.sent-code-requires
-sent-code-requires c = raw_lent_law _ c.requires _ _ (c.region_of-a.ensures.raw c.if-a-eq0.false c.if-a-lt-ISO_REGIONS.true)
-
-pub overflow_add-a-2 : goal.overflow_add-a-2
-overflow_add-a-2 c = omega (arith, c.region_of-a.ensures.iso c.if-a-lt-ISO_REGIONS.false)
-
-pub slice_bounds-sent-end-2 : goal.slice_bounds-sent-end-2
-slice_bounds-sent-end-2 c = iso_ends _ c.requires _ _ (c.region_of-a.ensures.iso c.if-a-lt-ISO_REGIONS.false)
-
-pub sent-code-requires-2 : goal.sent-code-requires-2
-sent-code-requires-2 c = iso_lent _ c.requires _ _ (c.region_of-a.ensures.iso c.if-a-lt-ISO_REGIONS.false)

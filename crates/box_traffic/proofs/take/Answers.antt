@@ -1,71 +1,52 @@
 -- `box_traffic::take` meets its contract. Assumes nothing.
-use Rattle.machine.specs.Channel.{take_next}
+use Rattle.machine.specs.Channel.{take_next, lent}
 use mathlib.Core.Path.{◌≡◌, refl, sym, ◌∙◌}
-use mathlib.Core.List.{[]}
 use native.Mathlib.Omega.{arith}
 use lib.Dec.{lit<}
 use lib.ListN.{length}
-use Rattle.machine.specs.Channel.{lent}
 use Rattle.layout.specs.Sizes.{region_size}
 use Rattle.iso_layout.specs.Sizes.{iso_region_size}
-use Rattle.memory.proofs.Seats.{raw_ends, raw_lent_law, raw_noted, raw_called, raw_muted, iso_ends, iso_lent, iso_noted_law, iso_called}
+use Rattle.memory.proofs.Seats.{raw_ends, raw_lent_law, raw_called, raw_muted, iso_ends, iso_lent, iso_called}
+use Rattle.seats.proofs.Laws.{raw_seat, iso_seat}
+use Rattle.noting.proofs.Laws.{by_code}
 use Rattle.box_traffic.proofs.take.Goals as goal
 
 -- a listener
+pub listens-requires : goal.listens-requires
+listens-requires c = raw_ends _ c.requires _ _ (raw_seat _ _ _ c.in-Some-Raw.field-0-is c.in-Some-Raw.ensures)
+
 pub note-requires : goal.note-requires
-note-requires c = (raw_ends _ c.requires _ _ (c.region_of-a.ensures.raw c.if-a-eq0.false c.if-a-lt-ISO_REGIONS.true), lit< tt)
+note-requires c = (raw_ends _ c.requires _ _ (raw_seat _ _ _ c.in-Some-Raw.field-0-is c.in-Some-Raw.ensures), lit< tt)
 
 pub returns-then-listens : goal.returns-then-listens
 unfolding lent
-returns-then-listens c rates =
-    raw_muted _ c.requires _ _ (c.region_of-a.ensures.raw c.if-a-eq0.false c.if-a-lt-ISO_REGIONS.true) (sym c.listens.ensures ∙ c.if-listens.true) rates _ refl _ c.note.ensures
+returns-then-listens c rates = raw_muted _ c.requires _ _ (raw_seat _ _ _ c.in-Some-Raw.field-0-is c.in-Some-Raw.ensures) (sym c.listens.ensures ∙ c.if-listens.true) rates _ refl _ c.note.ensures
 
 -- any other raw channel
-pub note-requires-then-a-lt-ISO_REGIONS : goal.note-requires-then-a-lt-ISO_REGIONS
-note-requires-then-a-lt-ISO_REGIONS c =
-    let long : length c.take-code.new.r ≡ region_size = omega arith in
-    raw_noted _ c.requires _ _ (c.region_of-a.ensures.raw c.if-a-eq0.false c.if-a-lt-ISO_REGIONS.true) [] _ _ _ _ _ (c.take-code.ensures [] _) long
+pub slice_bounds-take-end : goal.slice_bounds-take-end
+slice_bounds-take-end c = raw_ends _ c.requires _ _ (raw_seat _ _ _ c.in-Some-Raw.field-0-is c.in-Some-Raw.ensures)
 
-pub returns-then-a-lt-ISO_REGIONS : goal.returns-then-a-lt-ISO_REGIONS
-returns-then-a-lt-ISO_REGIONS c rates =
-    let may = sym c.listens.ensures ∙ c.if-listens.false in
-    let long : length c.take-code.new.r ≡ region_size = omega arith in
-    raw_called _ c.requires _ _ (c.region_of-a.ensures.raw c.if-a-eq0.false c.if-a-lt-ISO_REGIONS.true) rates _ may _ _ _ _ _ long (c.take-code.ensures rates _) c.note-then-a-lt-ISO_REGIONS.ensures
+pub take-taken-requires : goal.take-taken-requires
+take-taken-requires c = raw_lent_law _ c.requires _ _ (raw_seat _ _ _ c.in-Some-Raw.field-0-is c.in-Some-Raw.ensures)
+
+pub returns-else-listens : goal.returns-else-listens
+returns-else-listens c rates =
+    let long : length c.take-taken.new.r ≡ region_size = omega arith in
+    by_code (sym c.code_of.ensures.0) (raw_called _ c.requires _ _ (raw_seat _ _ _ c.in-Some-Raw.field-0-is c.in-Some-Raw.ensures) rates _ (sym c.listens.ensures ∙ c.if-listens.false) _ _ _ _ _ long (by_code c.code_of.ensures.0 (c.take-taken.ensures rates _)) c.note-in-Some-Raw.ensures)
 
 -- an ISO 15765 channel
-pub note-requires-2 : goal.note-requires-2
-note-requires-2 c =
-    let seat = c.region_of-a.ensures.iso c.if-a-lt-ISO_REGIONS.false in
-    let long : length c.take-code-2.new.r ≡ iso_region_size = omega arith in
-    iso_noted_law _ c.requires _ _ seat [] _ _ _ _ _ (c.take-code-2.ensures [] _) long
+pub slice_bounds-take-end-in-Some-Iso : goal.slice_bounds-take-end-in-Some-Iso
+slice_bounds-take-end-in-Some-Iso c = iso_ends _ c.requires _ _ (iso_seat _ _ _ c.in-Some-Iso.field-0-is c.in-Some-Iso.ensures)
 
-pub returns : goal.returns
-returns c rates =
-    let seat = c.region_of-a.ensures.iso c.if-a-lt-ISO_REGIONS.false in
-    let long : length c.take-code-2.new.r ≡ iso_region_size = omega arith in
-    iso_called _ c.requires _ _ seat rates _ _ _ _ _ _ long (c.take-code-2.ensures rates _) c.note-2.ensures refl
+pub take-taken-requires-in-Some-Iso : goal.take-taken-requires-in-Some-Iso
+take-taken-requires-in-Some-Iso c = iso_lent _ c.requires _ _ (iso_seat _ _ _ c.in-Some-Iso.field-0-is c.in-Some-Iso.ensures)
 
-pub returns-then-a-eq0 : goal.returns-then-a-eq0
+pub returns-in-Some-Iso : goal.returns-in-Some-Iso
+returns-in-Some-Iso c rates =
+    let long : length c.take-taken-in-Some-Iso.new.r ≡ iso_region_size = omega arith in
+    by_code (sym c.code_of-in-Some-Iso.ensures.0) (iso_called _ c.requires _ _ (iso_seat _ _ _ c.in-Some-Iso.field-0-is c.in-Some-Iso.ensures) rates _ _ _ _ _ _ long (by_code c.code_of-in-Some-Iso.ensures.0 (c.take-taken-in-Some-Iso.ensures rates _)) c.note-in-Some-Iso.ensures refl)
+
+-- none
+pub returns-in-None : goal.returns-in-None
 unfolding lent
-returns-then-a-eq0 c rates = c.region_of-a.ensures.refused c.if-a-eq0.true rates (take_next c.args.buffer.now)
-
-pub listens-requires : goal.listens-requires
-listens-requires c = raw_ends _ c.requires _ _ (c.region_of-a.ensures.raw c.if-a-eq0.false c.if-a-lt-ISO_REGIONS.true)
-
-pub overflow_add-a : goal.overflow_add-a
-overflow_add-a c = omega arith
-
-pub slice_bounds-take-end : goal.slice_bounds-take-end
-slice_bounds-take-end c = raw_ends _ c.requires _ _ (c.region_of-a.ensures.raw c.if-a-eq0.false c.if-a-lt-ISO_REGIONS.true)
-
-pub take-code-requires : goal.take-code-requires
-take-code-requires c = raw_lent_law _ c.requires _ _ (c.region_of-a.ensures.raw c.if-a-eq0.false c.if-a-lt-ISO_REGIONS.true)
-
-pub overflow_add-a-2 : goal.overflow_add-a-2
-overflow_add-a-2 c = omega (arith, c.region_of-a.ensures.iso c.if-a-lt-ISO_REGIONS.false)
-
-pub slice_bounds-take-end-2 : goal.slice_bounds-take-end-2
-slice_bounds-take-end-2 c = iso_ends _ c.requires _ _ (c.region_of-a.ensures.iso c.if-a-lt-ISO_REGIONS.false)
-
-pub take-code-requires-2 : goal.take-code-requires-2
-take-code-requires-2 c = iso_lent _ c.requires _ _ (c.region_of-a.ensures.iso c.if-a-lt-ISO_REGIONS.false)
+returns-in-None c rates = c.in-None.ensures rates (take_next c.args.buffer.now)

@@ -1,43 +1,64 @@
--- `byte_events::frame` meets its contract. Two numbers twice, of which the last is at most 64, and so many bytes. Assumes nothing.
+-- `byte_events::frame` meets its contract. Three numbers, an n, and so many bytes. Assumes nothing.
+use Prim.Native.Nat.{◌-◌}
 use mathlib.Core.Option.{bind}
+use mathlib.Core.Path.{◌≡◌}
+use native.Mathlib.Nat.{one-mul}
 use native.Mathlib.Omega.{arith}
-use borrow.Author.Tests.{le-leb}
-use Rattle.events.proofs.Reading.{raw_cut}
-use Rattle.event_parts.proofs.Parts.{pair_good, pair_bad, pair_inside, part_good, part_bad, pieces_raw, ones_there, ones_cut, ones_long}
-use Rattle.events.specs.Events.{◌>>=◌, done, bad, at_most64, arguments, arguments_of}
+use Rattle.event_parts.proofs.Parts.{stand, short}
+use Rattle.events.specs.Events.{◌>>=◌, done, number, at_most64, arguments, arguments_of}
 use Rattle.events.specs.Values.{values_after, values, in_order, value, pieces}
+use Rattle.reader.specs.Cursor.{ends, behind}
+use Rattle.reader.proofs.Reading.{read_good, read_bad, then_good, then_bad, then_gave, then_gave_bad}
 use Rattle.byte_events.proofs.frame.Goals as goal
 
-pub returns-in_default : goal.returns-in_default
-unfolding ◌>>=◌ bind done arguments arguments_of values_after values in_order value pieces
-returns-in_default c = record { is = pair_bad _ _ _ c.two.ensures c.in_default.is (λ e. rw e) (λ a m e f. rw (e, f)); says = pair_bad _ _ _ c.two.ensures c.in_default.is (λ e. rw e) (λ a m e f. rw (e, f)); there = tt }
+pub returns-in_err-line : goal.returns-in_err-line
+unfolding behind ◌>>=◌ bind done arguments arguments_of values_after values in_order value pieces
+returns-in_err-line c =
+    let no = read_bad number _ c.in_err-line.ensures in
+    rw c.from_residual.ensures (record { is = rw (no); says = rw (no); there = tt })
 
-pub returns-in_default-two : goal.returns-in_default-two
-unfolding ◌>>=◌ bind done at_most64 arguments arguments_of values_after values in_order value pieces
-returns-in_default-two c =
-    let p = pair_good _ _ _ c.two.ensures c.in-Two.is in
-    record { is = rw (p.first, p.second) (pair_bad _ _ _ c.two-2.ensures c.in_default-two.is (λ e. rw e) (λ a m e f. rw (e, f))); says = rw (p.first, p.second) (pair_bad _ _ _ c.two-2.ensures c.in_default-two.is (λ e. rw e) (λ a m e f. rw (e, f))); there = tt }
+pub returns-in_err-wide : goal.returns-in_err-wide
+unfolding behind ◌>>=◌ bind done arguments arguments_of values_after values in_order value pieces
+returns-in_err-wide c =
+    let to_line = read_good number _ c.in_ok-line.ensures in
+    let no = then_bad number to_line c.in_err-wide.ensures in
+    rw c.from_residual-in_err-wide.ensures (record { is = rw (to_line.is, no); says = rw (to_line.is, no); there = tt })
 
-pub part_end-requires : goal.part_end-requires
-part_end-requires c = (pair_inside _ _ _ c.two-2.ensures c.in-Two-two.is, omega arith)
+pub returns-in_err-id : goal.returns-in_err-id
+unfolding behind ◌>>=◌ bind done arguments arguments_of values_after values in_order value pieces
+returns-in_err-id c =
+    let to_line = read_good number _ c.in_ok-line.ensures in
+    let to_wide = then_good number to_line c.in_ok-wide.ensures in
+    let no = then_bad number to_wide c.in_err-id.ensures in
+    rw c.from_residual-in_err-id.ensures (record { is = rw (to_line.is, to_wide.is, no); says = rw (to_line.is, to_wide.is, no); there = tt })
 
-pub returns-in_default-part_end : goal.returns-in_default-part_end
-unfolding ◌>>=◌ bind done bad at_most64 arguments arguments_of values_after values in_order value pieces
-returns-in_default-part_end c =
-    let p = pair_good _ _ _ c.two.ensures c.in-Two.is in
-    let q = pair_good _ _ _ c.two-2.ensures c.in-Two-two.is in
-    record {
-      is = rw (p.first, p.second, q.first, q.second)
-          (part_bad _ _ _ _ _ c.part_end.ensures c.in_default-part_end.is (λ many. rw many) (λ few cut. rw (few, ones_cut _ _ _ cut)));
-      says = rw (p.first, p.second, q.first, q.second)
-          (part_bad _ _ _ _ _ c.part_end.ensures c.in_default-part_end.is (λ many. rw many) (λ few cut. rw (few, raw_cut _ _ _ cut)));
-      there = tt;
-    }
+pub returns-in_err-n : goal.returns-in_err-n
+unfolding behind ◌>>=◌ bind done arguments arguments_of values_after values in_order value pieces
+returns-in_err-n c =
+    let to_line = read_good number _ c.in_ok-line.ensures in
+    let to_wide = then_good number to_line c.in_ok-wide.ensures in
+    let to_id = then_good number to_wide c.in_ok-id.ensures in
+    let no = then_gave_bad at_most64 to_id c.in_err-n.ensures in
+    rw c.from_residual-in_err-n.ensures (record { is = rw (to_line.is, to_wide.is, to_id.is, no); says = rw (to_line.is, to_wide.is, to_id.is, no); there = tt })
+
+pub returns-in_err-from : goal.returns-in_err-from
+unfolding behind ◌>>=◌ bind done arguments arguments_of values_after values in_order value pieces
+returns-in_err-from c =
+    let to_line = read_good number _ c.in_ok-line.ensures in
+    let to_wide = then_good number to_line c.in_ok-wide.ensures in
+    let to_id = then_good number to_wide c.in_ok-id.ensures in
+    let to_n = then_gave at_most64 to_id c.in_ok-n.ensures in
+    let no = short _ _ _ (then_bad (ends c.in_ok-n.n) to_n c.in_err-from.ensures) in
+    rw c.from_residual-in_err-from.ensures (record { is = rw (to_line.is, to_wide.is, to_id.is, to_n.is, no.no_bytes); says = rw (to_line.is, to_wide.is, to_id.is, to_n.is, one-mul c.in_ok-n.n, no.no_raw); there = tt })
 
 pub returns : goal.returns
-unfolding ◌>>=◌ bind done bad at_most64 arguments arguments_of values_after values in_order value pieces
+unfolding behind ◌>>=◌ bind done arguments arguments_of values_after values in_order value pieces
 returns c =
-    let p = pair_good _ _ _ c.two.ensures c.in-Two.is in
-    let q = pair_good _ _ _ c.two-2.ensures c.in-Two-two.is in
-    let t = part_good _ _ _ _ _ c.part_end.ensures c.in-Ends.is in
-    record { is = rw (p.first, p.second, q.first, q.second, le-leb _ _ t.few, ones_there _ _ _ t); says = rw (p.first, p.second, q.first, q.second, le-leb _ _ t.few, pieces_raw _ _ _ _ t, ones_long _ _ _ t); there = (omega (arith, t.ends), t.inside) }
+    let to_line = read_good number _ c.in_ok-line.ensures in
+    let to_wide = then_good number to_line c.in_ok-wide.ensures in
+    let to_id = then_good number to_wide c.in_ok-id.ensures in
+    let to_n = then_gave at_most64 to_id c.in_ok-n.ensures in
+    let to_from = then_good (ends c.in_ok-n.n) to_n c.in_ok-from.ensures in
+    let at_from = stand _ _ _ to_from in
+    let sized : c.in_ok-from.end - c.in_ok-from.from ≡ c.in_ok-n.n = omega (arith, at_from.start, at_from.long) in
+    record { is = rw (to_line.is, to_wide.is, to_id.is, to_n.is, at_from.bytes_are); says = rw (to_line.is, to_wide.is, to_id.is, to_n.is, one-mul c.in_ok-n.n, at_from.raw_is, sized); there = (omega (arith, at_from.start, at_from.long), at_from.inside) }

@@ -1,39 +1,50 @@
--- `byte_events::write` meets its contract. Two numbers, of which the second is at most 64, and so many records. Assumes nothing.
+-- `byte_events::write` meets its contract. A number, an n, and so many records. Assumes nothing.
+use Prim.Native.Nat.{◌*◌}
 use mathlib.Core.Option.{bind}
+use native.Mathlib.Nat.{mul-le-mul}
 use native.Mathlib.Omega.{arith}
-use borrow.Author.Tests.{le-leb}
-use Rattle.events.proofs.Reading.{bytes_there, bytes_cut, raw_there, raw_cut}
+use Rattle.event_parts.proofs.Parts.{at_most_few, stand, short}
 use Rattle.recording_sizes.proofs.Laws.{record_fits}
-use Rattle.event_parts.proofs.Parts.{pair_good, pair_bad, pair_inside, part_good, part_bad}
-use Rattle.events.specs.Events.{◌>>=◌, done, bad, at_most64, arguments, arguments_of}
+use Rattle.events.specs.Events.{◌>>=◌, done, number, at_most64, arguments, arguments_of}
 use Rattle.events.specs.Values.{values_after, values, channel_then, in_order, pieces}
+use Rattle.reader.specs.Cursor.{ends, behind}
+use Rattle.reader.proofs.Reading.{read_good, read_bad, then_good, then_bad, then_gave, then_gave_bad}
 use Rattle.byte_events.proofs.write.Goals as goal
 
-pub returns-in_default : goal.returns-in_default
-unfolding ◌>>=◌ bind done at_most64 arguments arguments_of values_after values channel_then in_order pieces
-returns-in_default c = record { is = pair_bad _ _ _ c.two.ensures c.in_default.is (λ e. rw e) (λ a m e f. rw (e, f)); says = pair_bad _ _ _ c.two.ensures c.in_default.is (λ e. rw e) (λ a m e f. rw (e, f)); there = tt }
+pub returns-in_err-channel : goal.returns-in_err-channel
+unfolding behind ◌>>=◌ bind done arguments arguments_of values_after values channel_then in_order pieces
+returns-in_err-channel c =
+    let no = read_bad number _ c.in_err-channel.ensures in
+    rw c.from_residual.ensures (record { is = rw (no); says = rw (no); there = tt })
 
-pub part_end-requires : goal.part_end-requires
-part_end-requires c =
-    (pair_inside _ _ _ c.two.ensures c.in-Two.is, record_fits _ c.record_on-size.ensures)
+pub returns-in_err-n : goal.returns-in_err-n
+unfolding behind ◌>>=◌ bind done arguments arguments_of values_after values channel_then in_order pieces
+returns-in_err-n c =
+    let to_channel = read_good number _ c.in_ok-channel.ensures in
+    let no = then_gave_bad at_most64 to_channel c.in_err-n.ensures in
+    rw c.from_residual-in_err-n.ensures (record { is = rw (to_channel.is, no); says = rw (to_channel.is, no); there = tt })
 
-pub returns-in_default-part_end : goal.returns-in_default-part_end
-unfolding ◌>>=◌ bind done bad at_most64 arguments arguments_of values_after values channel_then in_order pieces
-returns-in_default-part_end c =
-    let p = pair_good _ _ _ c.two.ensures c.in-Two.is in
-    let size = c.record_on-size.ensures in
-    record {
-      is = rw (p.first, p.second, ← size)
-          (part_bad _ _ _ _ _ c.part_end.ensures c.in_default-part_end.is (λ many. rw many) (λ few cut. rw (few, bytes_cut _ _ _ cut)));
-      says = rw (p.first, p.second, ← size)
-          (part_bad _ _ _ _ _ c.part_end.ensures c.in_default-part_end.is (λ many. rw many) (λ few cut. rw (few, raw_cut _ _ _ cut)));
-      there = tt;
-    }
+pub returns-in_err-from : goal.returns-in_err-from
+unfolding behind ◌>>=◌ bind done arguments arguments_of values_after values channel_then in_order pieces
+returns-in_err-from c =
+    let to_channel = read_good number _ c.in_ok-channel.ensures in
+    let to_n = then_gave at_most64 to_channel c.in_ok-n.ensures in
+    let size = c.record_on-size.result in
+    let no = short _ _ _ (then_bad (ends (size * c.in_ok-n.n)) to_n c.in_err-from.ensures) in
+    rw c.from_residual-in_err-from.ensures (record { is = rw (to_channel.is, to_n.is, ← c.record_on-size.ensures, no.no_bytes); says = rw (to_channel.is, to_n.is, ← c.record_on-size.ensures, no.no_raw); there = tt })
 
 pub returns : goal.returns
-unfolding ◌>>=◌ bind done bad at_most64 arguments arguments_of values_after values channel_then in_order pieces
+unfolding behind ◌>>=◌ bind done arguments arguments_of values_after values channel_then in_order pieces
 returns c =
-    let p = pair_good _ _ _ c.two.ensures c.in-Two.is in
-    let size = c.record_on-size.ensures in
-    let q = part_good _ _ _ _ _ c.part_end.ensures c.in-Ends.is in
-    record { is = rw (p.first, p.second, ← size, le-leb _ _ q.few, bytes_there _ _ _ _ q.ends q.inside); says = rw (p.first, p.second, ← size, le-leb _ _ q.few, raw_there _ _ _ _ q.ends q.inside); there = (omega (arith, q.ends), q.inside) }
+    let to_channel = read_good number _ c.in_ok-channel.ensures in
+    let to_n = then_gave at_most64 to_channel c.in_ok-n.ensures in
+    let size = c.record_on-size.result in
+    let to_from = then_good (ends (size * c.in_ok-n.n)) to_n c.in_ok-from.ensures in
+    let at_from = stand _ _ _ to_from in
+    record { is = rw (to_channel.is, to_n.is, ← c.record_on-size.ensures, at_from.bytes_are); says = rw (to_channel.is, to_n.is, ← c.record_on-size.ensures, at_from.raw_is); there = (omega (arith, at_from.start, at_from.long), at_from.inside) }
+
+pub overflow_mul-size : goal.overflow_mul-size
+overflow_mul-size c =
+    let to_channel = read_good number _ c.in_ok-channel.ensures in
+    let to_n = then_gave at_most64 to_channel c.in_ok-n.ensures in
+    omega (arith, mul-le-mul (record_fits _ c.record_on-size.ensures) (at_most_few _ _ _ _ to_n.is))

@@ -1,36 +1,22 @@
--- `can::is_rate` meets its contract: what was found stands among those looked at. Assumes nothing.
-use mathlib.Core.Path.{◌≡◌, refl, sym, ap, ◌∙◌}
-use mathlib.Core.Bool.{Bool, ◌||◌, or-false, or_assoc}
-use mathlib.Core.List.{List, [], ◌∷◌, ◌++◌}
-use Prim.Native.Nat.{ℕ, suc, ◌+◌}
-use native.Mathlib.Omega.{arith}
+-- `can::is_rate` meets its contract: membership, with the sides of each test swapped. Assumes nothing.
+use Rattle.std.specs.List.{list_any}
+use mathlib.Core.Path.{◌≡◌, refl, sym, ap₂, ◌∙◌}
+use mathlib.Core.Bool.{Bool, true, false, ◌||◌}
+use mathlib.Core.List.{List, [], ◌∷◌}
+use Prim.Native.Nat.{ℕ}
 use lib.Dec.{eqb}
-use lib.ListN.{get_or, take}
-use lib.Seq.{take-suc, take_all}
+use borrow.Author.Tests.{eqb-true, eq-eqb, eqb-false, ne_eqb}
 use Rattle.codec.specs.Plain.{member}
 use Rattle.can.proofs.is_rate.Goals as goal
 
--- a number looked at behind others
-member_last : (n x : ℕ) (xs : List ℕ) → (member n xs || eqb n x) ≡ member n (xs ++ (x ∷ []))
-unfolding member
-member_last n x [] = sym (or-false (eqb n x))
-member_last n x (y ∷ ys) = or_assoc (eqb n y) (member n ys) (eqb n x) ∙ ap (λ (b : Bool). eqb n y || b) (member_last n x ys)
+swapped : (a b : ℕ) (t : Bool) → eqb a b ≡ t → eqb a b ≡ eqb b a
+swapped a b true e = e ∙ sym (eq-eqb b a (sym (eqb-true a b e)))
+swapped a b false e = e ∙ sym (ne_eqb b a (λ s. eqb-false a b e (sym s)))
 
-pub loop-i-init : goal.loop-i-init
+found : (n : ℕ) (xs : List ℕ) → list_any (λ y. eqb y n) xs ≡ member n xs
 unfolding member
-loop-i-init c = (omega arith, refl)
-
-pub loop-i-preserved : goal.loop-i-preserved
-loop-i-preserved c =
-    let rates : List ℕ = c.args.rates.now in
-    let rate = c.args.rate in
-    let i = c.loop-i.i in
-    let more : suc i ≡ i + 1 = omega arith in (
-      omega arith,
-      ap (λ (b : Bool). b || eqb rate (get_or rates i 0)) c.loop-i.invariant.1 ∙ member_last rate (get_or rates i 0) (take i rates)
-          ∙ ap (member rate) (sym (take-suc rates i 0 (omega arith)) ∙ ap (λ (k : ℕ). take k rates) more),
-    )
+found n [] = refl
+found n (x ∷ xs) = ap₂ (λ (a b : Bool). a || b) (swapped x n (eqb x n) refl) (found n xs)
 
 pub returns : goal.returns
-returns c =
-    c.loop-i.invariant.1 ∙ ap (member c.args.rate) (take_all c.loop-i.i c.args.rates.now (omega arith))
+returns c = c.contains.ensures.value ∙ found c.args.rate c.args.rates.now

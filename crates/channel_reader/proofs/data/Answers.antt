@@ -9,7 +9,7 @@ use Rattle.telegram.specs.Bits.{bit}
 use Rattle.telegram.specs.Telegram.{data_telegram, channel}
 use Rattle.telegram.proofs.Tests.{let_through, stopped}
 use Rattle.telegram.proofs.Channel.{first_data}
-use Rattle.telegram_types.specs.Face.{told, taken_said, said, channel_said, carried_by}
+use Rattle.telegram_types.specs.Face.{told, said, channel_said, carried_by}
 use Rattle.telegram_answers.proofs.Answers.{carrying, answers}
 use Rattle.channel_reader.proofs.data.Goals as goal
 
@@ -20,7 +20,7 @@ returns-then-bytes-gt8 c =
     c.refused.ensures ∙ answers channel (first_data b c.requires.0 c.requires.1 ∙ stopped _ _ (lt-leb _ _ long))
 
 pub returns : goal.returns
-unfolding told taken_said said channel_said carried_by
+unfolding told said channel_said carried_by
 returns c =
     let b = c.args.bytes.now in
     let h = get_or b 0 0 in

@@ -1,13 +1,19 @@
 -- `channel_record::data` meets its contract. Assumes nothing.
 use mathlib.Core.Path.{ap, ◌∙◌}
-use Rattle.telegram_types.specs.Face.{said, channel_said}
+use Rattle.telegram_types.specs.Face.{said, taken_said, channel_said}
 use Rattle.telegram_record.specs.Record.{kept, carried_in, data_in, count_in}
-use Rattle.channel_record.proofs.Channels.{data_narrowed}
+use Rattle.telegram_record.proofs.Narrowed.{whole_byte, no_byte}
+use Rattle.channel_record.proofs.Channels.{data_small, unfit_if, said_if}
 use Rattle.channel_record.proofs.data.Goals as goal
+
+pub returns-in_err-sn : goal.returns-in_err-sn
+unfolding data_in
+returns-in_err-sn c =
+    unfit_if _ _ _ _ c.from_residual.ensures
+    (λ fit. no_byte _ _ _ c.byte_at.ensures c.in_err-sn.was (data_small _ _ _ _ fit))
 
 pub returns : goal.returns
 unfolding said channel_said data_in count_in
 returns c =
-    ap kept (c.only_if.ensures (carried_in c.args.bytes.now))
-    ∙ rw (c.low.ensures, c.word_at-asks.ensures.0, c.word_at-last.ensures.0, c.word_at-sn.ensures.0)
-    (data_narrowed _ _ _ _ _)
+    ap kept (ap (λ o. taken_said o (carried_in c.args.bytes.now)) c.then_some.ensures ∙ said_if _ _ _)
+    ∙ rw (whole_byte _ _ _ _ c.byte_at.ensures c.in_ok-sn.was, c.word_at-asks.ensures.0, c.word_at-last.ensures.0)

@@ -1,11 +1,8 @@
 -- `cubes::survey` meets its contract. Assumes nothing.
 use borrow.Author.Rules.{rules}
-use Rattle.cubes.proofs.Look.{look_none, look_all, look_inside, look_apart, look_open}
+use Rattle.cubes.proofs.Look.{look_inside, look_apart, look_open}
 use Rattle.cubes.proofs.survey.Goals as goal
 use Rattle.cubes.proofs.survey.Goals.{then-p-cm+else-more-eq0, else-p-cm}
-
-pub loop-i-init : goal.loop-i-init
-loop-i-init c = look_none _ _ _ _
 
 pub returns-then-more-eq0 : goal.returns-then-more-eq0
 returns-then-more-eq0 c = look_inside _ _ _ _ c.loop-i.i (search rules) c.if-p-cm.true c.if-more-eq0.true
@@ -17,6 +14,3 @@ loop-i-preserved c =
       | then-p-cm+else-more-eq0 w ↦ look_open _ _ _ _ l.i (search rules) _ _ l.invariant _ _ w.if-more-eq0.false w.ones-is w.zeros-is
       | else-p-cm w ↦ look_apart _ _ _ _ l.i (search rules) _ _ l.invariant _ _ w.if-p-cm.false w.ones-is w.zeros-is
     ]
-
-pub returns : goal.returns
-returns c = look_all _ _ _ _ _ _ _ c.loop-i.invariant (search rules)

@@ -1,22 +1,13 @@
 -- `device_channels::clear` meets its contract. Assumes nothing.
-use Rattle.machine.specs.Channel.{clear}
-use Rattle.machine.specs.Step.{call}
-use mathlib.Core.Path.{sym, ◌∙◌}
-use Rattle.codec.proofs.Tests.{true_T}
-use Rattle.machine.specs.Channel.{lent}
+use Rattle.std.proofs.lemmas.Result.{err_from_is_err_and}
+use Rattle.machine.specs.Channel.{clear, lent}
+use Rattle.machine.specs.Step.{call, lent_by}
 use Rattle.machine.specs.Codes.{two_rates}
-use Rattle.machine.specs.Step.{lent_by}
-use Rattle.memory.proofs.Rows.{not_valid}
+use Rattle.box_validity.proofs.Refused.{no_device}
 use Rattle.device_channels.proofs.clear.Goals as goal
 
-pub returns-then-not-valid : goal.returns-then-not-valid
+pub returns-in_err-check : goal.returns-in_err-check
 unfolding lent_by lent
-returns-then-not-valid c = not_valid two_rates _ (call c.args.channel (clear c.args.kind)) (sym c.valid.ensures ∙ c.if-not-valid.true)
-
-pub clear-requires : goal.clear-requires
-unfolding lent_by lent
-clear-requires c = true_T _ (sym c.valid.ensures ∙ c.if-not-valid.false)
-
-pub returns : goal.returns
-unfolding lent_by lent
-returns c = c.clear.ensures two_rates
+returns-in_err-check c =
+    let p = err_from_is_err_and c.from_residual.result c.from_residual.ensures.1 in
+    rw (p.1, p.2) (no_device two_rates _ (call c.args.channel (clear c.args.kind)) _ c.in_err-check.ensures)

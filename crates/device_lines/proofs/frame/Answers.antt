@@ -1,20 +1,12 @@
 -- `device_lines::frame` meets its contract. Assumes nothing.
-use mathlib.Core.Path.{sym, ◌∙◌}
-use Rattle.codec.proofs.Tests.{true_T}
-use Rattle.machine.specs.Channel.{lent}
+use Rattle.std.proofs.lemmas.Result.{err_from_is_err_and}
+use Rattle.machine.specs.Step.{frame, lent_by}
 use Rattle.machine.specs.Codes.{two_rates}
-use Rattle.machine.specs.Step.{lent_by}
-use Rattle.memory.proofs.Rows.{not_valid}
+use Rattle.box_validity.proofs.Refused.{no_device}
 use Rattle.device_lines.proofs.frame.Goals as goal
 
-pub returns-then-not-valid : goal.returns-then-not-valid
-unfolding lent_by lent
-returns-then-not-valid c = not_valid two_rates _ _ (sym c.valid.ensures ∙ c.if-not-valid.true)
-
-pub frame-requires : goal.frame-requires
-unfolding lent_by lent
-frame-requires c = true_T _ (sym c.valid.ensures ∙ c.if-not-valid.false)
-
-pub returns : goal.returns
-unfolding lent_by lent
-returns c = c.frame.ensures two_rates
+pub returns-in_err-check : goal.returns-in_err-check
+unfolding lent_by
+returns-in_err-check c =
+    let p = err_from_is_err_and c.from_residual.result c.from_residual.ensures.1 in
+    rw (p.1, p.2) (no_device two_rates _ (frame c.args.line c.args.wide c.args.id c.args.bytes.now) _ c.in_err-check.ensures)

@@ -1,20 +1,13 @@
 -- `device_links::link_send` meets its contract. Assumes nothing.
-use mathlib.Core.Path.{sym, ◌∙◌}
-use Rattle.codec.proofs.Tests.{true_T}
-use Rattle.machine.specs.Channel.{lent, raw_lent}
+use Rattle.std.proofs.lemmas.Result.{err_from_is_err_and}
+use Rattle.machine.specs.Channel.{link_send, lent, raw_lent}
+use Rattle.machine.specs.Step.{call, lent_by}
 use Rattle.machine.specs.Codes.{two_rates}
-use Rattle.machine.specs.Step.{lent_by}
-use Rattle.memory.proofs.Rows.{not_valid}
+use Rattle.box_validity.proofs.Refused.{no_device}
 use Rattle.device_links.proofs.link_send.Goals as goal
 
-pub returns-then-not-valid : goal.returns-then-not-valid
+pub returns-in_err-check : goal.returns-in_err-check
 unfolding lent_by lent raw_lent
-returns-then-not-valid c = not_valid two_rates _ _ (sym c.valid.ensures ∙ c.if-not-valid.true)
-
-pub link_send-requires : goal.link_send-requires
-unfolding lent_by lent raw_lent
-link_send-requires c = true_T _ (sym c.valid.ensures ∙ c.if-not-valid.false)
-
-pub returns : goal.returns
-unfolding lent_by lent raw_lent
-returns c = c.link_send.ensures two_rates
+returns-in_err-check c =
+    let p = err_from_is_err_and c.from_residual.result c.from_residual.ensures.1 in
+    rw (p.1, p.2) (no_device two_rates _ (call c.args.channel (link_send c.args.message.now)) _ c.in_err-check.ensures)

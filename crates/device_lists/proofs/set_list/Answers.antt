@@ -1,59 +1,56 @@
 -- `device_lists::set_list` meets its contract. Assumes nothing.
-use mathlib.Core.Path.{ap, ◌≡◌, ◌∙◌}
-use Prim.Native.Nat.{ℕ}
+use mathlib.Core.Path.{refl, ap, ◌≡◌, ◌∙◌}
+use Prim.Native.Nat.{ℕ, ◌<◌}
 use mathlib.Core.List.{List}
 use native.Mathlib.Numerals.{add-one}
 use native.Mathlib.Omega.{arith}
 use lib.ListN.{length}
+use Rattle.std.proofs.lemmas.Result.{err_from_is_err_and}
+use Rattle.codes.proofs.Laws.{not_done}
 use Rattle.machine.specs.Codes.{two_rates}
 use Rattle.machine.specs.Channel.{set_list}
 use Rattle.machine.specs.Step.{call}
 use Rattle.memory.specs.Promise.{outcome}
-use Rattle.memory.proofs.Lists.{placed_ready}
-use Rattle.device_lists.specs.Lists.{listed}
-use Rattle.device_lists.proofs.Lists.{set_from, set_done, set_next, set_last, listed_length}
+use Rattle.device_lists.specs.Lists.{listed, Found}
+use Rattle.device_lists.proofs.Refused.{seated_ready}
+use Rattle.device_lists.proofs.Lists.{set_from, set_done, set_next, set_last}
 use Rattle.device_lists.proofs.set_list.Goals as goal
 
-pub loop-i-init : goal.loop-i-init
-loop-i-init c =
-    let b = c.begin-refused in
-    let e = b.ensures in
-    let z : b.result ≡ 0 = c.if-refused-ne-STATUS_NOERROR.false in
-    let same : b.new.mem ≡ c.args.mem.now = e.stays z in
+pub loop-pair-init : goal.loop-pair-init
+loop-pair-init c =
+    let a = c.args in
+    let e : Found a.mem.now a.channel (length a.pairs.now) c.begin.new.mem = c.in_ok-begin.ensures in
     record {
-      within = omega arith;
-      few = e.few z;
-      ready = rw same (placed_ready c.args.mem.now (e.good z) c.args.channel e.base (e.placed z) (e.is_open z));
-      right = ap (λ (m : List ℕ). outcome two_rates m (call c.args.channel (set_list (listed c.args.pairs.now)))) same;
+      few = e.few;
+      ready = rw e.stays (seated_ready a.mem.now e.good a.channel e.seat e.seated);
+      right = ap (λ (m : List ℕ). outcome two_rates m (call a.channel (set_list (listed a.pairs.now)))) e.stays;
     }
 
-pub returns-then-refused-ne-STATUS_NOERROR : goal.returns-then-refused-ne-STATUS_NOERROR
-returns-then-refused-ne-STATUS_NOERROR c = c.begin-refused.ensures.set_refused c.if-refused-ne-STATUS_NOERROR.true (listed c.args.pairs.now) (listed_length c.args.pairs.now)
-
-pub returns-then-code-ne-STATUS_NOERROR : goal.returns-then-code-ne-STATUS_NOERROR
-returns-then-code-ne-STATUS_NOERROR c =
-    let l = c.loop-i in
+pub returns-in_err-set_one : goal.returns-in_err-set_one
+returns-in_err-set_one c =
+    let l = c.loop-pair in
     let v = l.invariant in
-    let s = c.set_one-code in
-    set_last c.args.channel c.args.pairs.now l.mem v.ready v.few l.i c.loop-i-test.true s.result s.new.mem s.ensures c.if-code-ne-STATUS_NOERROR.true ∙ v.right
+    let small : l.pair-index < length c.args.pairs.now = omega arith in
+    let p = err_from_is_err_and c.from_residual-in_err-set_one.result c.from_residual-in_err-set_one.ensures.1 in
+    rw (p.1, p.2)
+    (set_last c.args.channel c.args.pairs.now l.mem v.ready v.few l.pair-index small _ c.set_one.new.mem c.in_err-set_one.ensures (not_done c.in_err-set_one.field-0.0) ∙ v.right)
 
-pub loop-i-preserved : goal.loop-i-preserved
-loop-i-preserved c =
-    let l = c.loop-i in
+pub loop-pair-preserved : goal.loop-pair-preserved
+loop-pair-preserved c =
+    let l = c.loop-pair in
     let v = l.invariant in
-    let s = c.set_one-code in
-    let k = set_next c.args.channel c.args.pairs.now l.mem v.ready v.few l.i c.loop-i-test.true s.result s.new.mem s.ensures c.if-code-ne-STATUS_NOERROR.false in
+    let small : l.pair-index < length c.args.pairs.now = omega arith in
+    let k = set_next c.args.channel c.args.pairs.now l.mem v.ready v.few l.pair-index small 0 c.set_one.new.mem c.in_ok-set_one.ensures refl in
     record {
-      within = omega arith;
       few = v.few;
       ready = k.0;
-      right = ap (λ (j : ℕ). set_from c.args.channel c.args.pairs.now j s.new.mem) (add-one l.i) ∙ k.1 ∙ v.right;
+      right = ap (λ (j : ℕ). set_from c.args.channel c.args.pairs.now j c.set_one.new.mem) (add-one l.pair-index) ∙ k.1 ∙ v.right;
     }
 
 pub returns : goal.returns
 returns c =
-    let l = c.loop-i in
+    let l = c.loop-pair in
     let v = l.invariant in
-    let e : length c.args.pairs.now ≡ l.i = omega arith in
+    let e : length c.args.pairs.now ≡ l.pair-index = omega arith in
     set_done c.args.channel c.args.pairs.now l.mem v.ready
     ∙ ap (λ (j : ℕ). set_from c.args.channel c.args.pairs.now j l.mem) e ∙ v.right

@@ -1,20 +1,10 @@
 -- `device_traffic::write` meets its contract. Assumes nothing.
-use mathlib.Core.Path.{sym, ◌∙◌}
-use Rattle.codec.proofs.Tests.{true_T}
-use Rattle.machine.specs.Channel.{lent}
+use Rattle.machine.specs.Channel.{write, lent}
+use Rattle.machine.specs.Step.{call, lent_by}
 use Rattle.machine.specs.Codes.{two_rates}
-use Rattle.machine.specs.Step.{lent_by}
-use Rattle.memory.proofs.Rows.{not_valid}
+use Rattle.box_validity.proofs.Refused.{no_device}
 use Rattle.device_traffic.proofs.write.Goals as goal
 
-pub returns-then-not-valid : goal.returns-then-not-valid
+pub returns-in-Err : goal.returns-in-Err
 unfolding lent_by lent
-returns-then-not-valid c = not_valid two_rates _ _ (sym c.valid.ensures ∙ c.if-not-valid.true)
-
-pub write-requires : goal.write-requires
-unfolding lent_by lent
-write-requires c = true_T _ (sym c.valid.ensures ∙ c.if-not-valid.false)
-
-pub returns : goal.returns
-unfolding lent_by lent
-returns c = c.write.ensures two_rates
+returns-in-Err c = no_device two_rates _ (call c.args.channel (write c.args.n c.args.buffer.now)) _ c.in-Err.ensures

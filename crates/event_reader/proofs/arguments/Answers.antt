@@ -1,83 +1,145 @@
 -- `event_reader::arguments` meets its contract. Each arm is the entry of the table for its number. Assumes nothing.
-use mathlib.Core.Logic.{inl, inr}
-use Rattle.events.proofs.Reading.{unknown, unknown_values}
 use mathlib.Core.Option.{bind}
-use Rattle.events.specs.Events.{◌>>=◌, done, arguments, arguments_of}
-use Rattle.events.specs.Values.{in_order, values, values_after}
+use Rattle.events.proofs.Reading.{unknown, unknown_values}
+use Rattle.events.specs.Events.{◌>>=◌, done, number, arguments, arguments_of}
+use Rattle.events.specs.Values.{in_order, value, values, values_after}
+use Rattle.reader.specs.Cursor.{behind}
+use Rattle.reader.proofs.Reading.{read_good, read_bad, then_good, then_bad}
 use Rattle.event_reader.proofs.arguments.Goals as goal
 
-pub one-requires : goal.one-requires
-one-requires c = inl c.in-2.is
+pub returns-in_err-next_number-in-2 : goal.returns-in_err-next_number-in-2
+unfolding behind ◌>>=◌ bind done arguments arguments_of values_after values in_order value
+returns-in_err-next_number-in-2 c =
+    let no = read_bad number _ c.in_err-next_number-in-2.ensures in
+    rw (c.in-2.is, c.from_residual.ensures) (record { is = rw no; says = rw no; there = tt })
 
-pub one-requires-in-4 : goal.one-requires-in-4
-one-requires-in-4 c = inr (inl c.in-4.is)
-
-pub both-requires : goal.both-requires
-both-requires c = inl c.in-7.is
-
-pub both-requires-in-9 : goal.both-requires-in-9
-both-requires-in-9 c = inr (inl c.in-9.is)
-
-pub one-requires-in-12 : goal.one-requires-in-12
-one-requires-in-12 c = inr (inr (inl c.in-12.is))
-
-pub one-requires-in-13 : goal.one-requires-in-13
-one-requires-in-13 c = inr (inr (inr c.in-13.is))
-
-pub both-requires-in-14 : goal.both-requires-in-14
-both-requires-in-14 c = inr (inr (inl c.in-14.is))
-
-pub both-requires-in-15 : goal.both-requires-in-15
-both-requires-in-15 c = inr (inr (inr c.in-15.is))
-
-pub returns-in-1 : goal.returns-in-1
-returns-in-1 c = rw c.in-1.is c.connect.ensures
-
-pub returns-in-2 : goal.returns-in-2
-returns-in-2 c = c.one.ensures
+pub returns-in_ok-next_number-in-2 : goal.returns-in_ok-next_number-in-2
+unfolding behind ◌>>=◌ bind done arguments arguments_of values_after values in_order value
+returns-in_ok-next_number-in-2 c =
+    let one = read_good number _ c.in_ok-next_number-in-2.ensures in
+    rw c.in-2.is (record { is = rw one.is; says = rw one.is; there = tt })
 
 pub returns-in-3 : goal.returns-in-3
-unfolding ◌>>=◌ bind done arguments arguments_of in_order values values_after
-returns-in-3 c = record { is = rw c.in-3.is; says = rw c.in-3.is; there = tt }
+unfolding behind ◌>>=◌ bind done arguments arguments_of values_after values in_order value
+returns-in-3 c =
+    record { is = rw c.in-3.is; says = rw c.in-3.is; there = tt }
 
-pub returns-in-4 : goal.returns-in-4
-returns-in-4 c = c.one-in-4.ensures
+pub returns-in_err-next_number-in-4 : goal.returns-in_err-next_number-in-4
+unfolding behind ◌>>=◌ bind done arguments arguments_of values_after values in_order value
+returns-in_err-next_number-in-4 c =
+    let no = read_bad number _ c.in_err-next_number-in-4.ensures in
+    rw (c.in-4.is, c.from_residual-in_err-next_number-in-4.ensures) (record { is = rw no; says = rw no; there = tt })
 
-pub returns-in-5 : goal.returns-in-5
-returns-in-5 c = rw c.in-5.is c.frame.ensures
+pub returns-in_ok-next_number-in-4 : goal.returns-in_ok-next_number-in-4
+unfolding behind ◌>>=◌ bind done arguments arguments_of values_after values in_order value
+returns-in_ok-next_number-in-4 c =
+    let one = read_good number _ c.in_ok-next_number-in-4.ensures in
+    rw c.in-4.is (record { is = rw one.is; says = rw one.is; there = tt })
 
-pub returns-in-6 : goal.returns-in-6
-returns-in-6 c = rw c.in-6.is c.filter.ensures
+pub returns-in_err-next_number-in-7 : goal.returns-in_err-next_number-in-7
+unfolding behind ◌>>=◌ bind done arguments arguments_of values_after values in_order value
+returns-in_err-next_number-in-7 c =
+    let no = read_bad number _ c.in_err-next_number-in-7.ensures in
+    rw (c.in-7.is, c.from_residual-in_err-next_number-in-7.ensures) (record { is = rw no; says = rw no; there = tt })
 
-pub returns-in-7 : goal.returns-in-7
-returns-in-7 c = c.both.ensures
+pub returns-in_err-next_number-in-7-2 : goal.returns-in_err-next_number-in-7-2
+unfolding behind ◌>>=◌ bind done arguments arguments_of values_after values in_order value
+returns-in_err-next_number-in-7-2 c =
+    let one = read_good number _ c.in_ok-next_number-in-7.ensures in
+    let no = then_bad number one c.in_err-next_number-in-7-2.ensures in
+    rw (c.in-7.is, c.from_residual-in_err-next_number-in-7-2.ensures) (record { is = rw (one.is, no); says = rw (one.is, no); there = tt })
 
-pub returns-in-8 : goal.returns-in-8
-returns-in-8 c = rw c.in-8.is c.periodic.ensures
+pub returns-in_ok-next_number-in-7-2 : goal.returns-in_ok-next_number-in-7-2
+unfolding behind ◌>>=◌ bind done arguments arguments_of values_after values in_order value
+returns-in_ok-next_number-in-7-2 c =
+    let one = read_good number _ c.in_ok-next_number-in-7.ensures in
+    let two = then_good number one c.in_ok-next_number-in-7-2.ensures in
+    rw c.in-7.is (record { is = rw (one.is, two.is); says = rw (one.is, two.is); there = tt })
 
-pub returns-in-9 : goal.returns-in-9
-returns-in-9 c = c.both-in-9.ensures
+pub returns-in_err-next_number-in-9 : goal.returns-in_err-next_number-in-9
+unfolding behind ◌>>=◌ bind done arguments arguments_of values_after values in_order value
+returns-in_err-next_number-in-9 c =
+    let no = read_bad number _ c.in_err-next_number-in-9.ensures in
+    rw (c.in-9.is, c.from_residual-in_err-next_number-in-9.ensures) (record { is = rw no; says = rw no; there = tt })
 
-pub returns-in-10 : goal.returns-in-10
-returns-in-10 c = rw c.in-10.is c.write.ensures
+pub returns-in_err-next_number-in-9-2 : goal.returns-in_err-next_number-in-9-2
+unfolding behind ◌>>=◌ bind done arguments arguments_of values_after values in_order value
+returns-in_err-next_number-in-9-2 c =
+    let one = read_good number _ c.in_ok-next_number-in-9.ensures in
+    let no = then_bad number one c.in_err-next_number-in-9-2.ensures in
+    rw (c.in-9.is, c.from_residual-in_err-next_number-in-9-2.ensures) (record { is = rw (one.is, no); says = rw (one.is, no); there = tt })
 
-pub returns-in-11 : goal.returns-in-11
-returns-in-11 c = rw c.in-11.is c.read.ensures
+pub returns-in_ok-next_number-in-9-2 : goal.returns-in_ok-next_number-in-9-2
+unfolding behind ◌>>=◌ bind done arguments arguments_of values_after values in_order value
+returns-in_ok-next_number-in-9-2 c =
+    let one = read_good number _ c.in_ok-next_number-in-9.ensures in
+    let two = then_good number one c.in_ok-next_number-in-9-2.ensures in
+    rw c.in-9.is (record { is = rw (one.is, two.is); says = rw (one.is, two.is); there = tt })
 
-pub returns-in-12 : goal.returns-in-12
-returns-in-12 c = c.one-in-12.ensures
+pub returns-in_err-next_number-in-12 : goal.returns-in_err-next_number-in-12
+unfolding behind ◌>>=◌ bind done arguments arguments_of values_after values in_order value
+returns-in_err-next_number-in-12 c =
+    let no = read_bad number _ c.in_err-next_number-in-12.ensures in
+    rw (c.in-12.is, c.from_residual-in_err-next_number-in-12.ensures) (record { is = rw no; says = rw no; there = tt })
 
-pub returns-in-13 : goal.returns-in-13
-returns-in-13 c = c.one-in-13.ensures
+pub returns-in_ok-next_number-in-12 : goal.returns-in_ok-next_number-in-12
+unfolding behind ◌>>=◌ bind done arguments arguments_of values_after values in_order value
+returns-in_ok-next_number-in-12 c =
+    let one = read_good number _ c.in_ok-next_number-in-12.ensures in
+    rw c.in-12.is (record { is = rw one.is; says = rw one.is; there = tt })
 
-pub returns-in-14 : goal.returns-in-14
-returns-in-14 c = c.both-in-14.ensures
+pub returns-in_err-next_number-in-13 : goal.returns-in_err-next_number-in-13
+unfolding behind ◌>>=◌ bind done arguments arguments_of values_after values in_order value
+returns-in_err-next_number-in-13 c =
+    let no = read_bad number _ c.in_err-next_number-in-13.ensures in
+    rw (c.in-13.is, c.from_residual-in_err-next_number-in-13.ensures) (record { is = rw no; says = rw no; there = tt })
 
-pub returns-in-15 : goal.returns-in-15
-returns-in-15 c = c.both-in-15.ensures
+pub returns-in_ok-next_number-in-13 : goal.returns-in_ok-next_number-in-13
+unfolding behind ◌>>=◌ bind done arguments arguments_of values_after values in_order value
+returns-in_ok-next_number-in-13 c =
+    let one = read_good number _ c.in_ok-next_number-in-13.ensures in
+    rw c.in-13.is (record { is = rw one.is; says = rw one.is; there = tt })
 
-pub returns-in-16 : goal.returns-in-16
-returns-in-16 c = rw c.in-16.is c.set.ensures
+pub returns-in_err-next_number-in-14 : goal.returns-in_err-next_number-in-14
+unfolding behind ◌>>=◌ bind done arguments arguments_of values_after values in_order value
+returns-in_err-next_number-in-14 c =
+    let no = read_bad number _ c.in_err-next_number-in-14.ensures in
+    rw (c.in-14.is, c.from_residual-in_err-next_number-in-14.ensures) (record { is = rw no; says = rw no; there = tt })
+
+pub returns-in_err-next_number-in-14-2 : goal.returns-in_err-next_number-in-14-2
+unfolding behind ◌>>=◌ bind done arguments arguments_of values_after values in_order value
+returns-in_err-next_number-in-14-2 c =
+    let one = read_good number _ c.in_ok-next_number-in-14.ensures in
+    let no = then_bad number one c.in_err-next_number-in-14-2.ensures in
+    rw (c.in-14.is, c.from_residual-in_err-next_number-in-14-2.ensures) (record { is = rw (one.is, no); says = rw (one.is, no); there = tt })
+
+pub returns-in_ok-next_number-in-14-2 : goal.returns-in_ok-next_number-in-14-2
+unfolding behind ◌>>=◌ bind done arguments arguments_of values_after values in_order value
+returns-in_ok-next_number-in-14-2 c =
+    let one = read_good number _ c.in_ok-next_number-in-14.ensures in
+    let two = then_good number one c.in_ok-next_number-in-14-2.ensures in
+    rw c.in-14.is (record { is = rw (one.is, two.is); says = rw (one.is, two.is); there = tt })
+
+pub returns-in_err-next_number-in-15 : goal.returns-in_err-next_number-in-15
+unfolding behind ◌>>=◌ bind done arguments arguments_of values_after values in_order value
+returns-in_err-next_number-in-15 c =
+    let no = read_bad number _ c.in_err-next_number-in-15.ensures in
+    rw (c.in-15.is, c.from_residual-in_err-next_number-in-15.ensures) (record { is = rw no; says = rw no; there = tt })
+
+pub returns-in_err-next_number-in-15-2 : goal.returns-in_err-next_number-in-15-2
+unfolding behind ◌>>=◌ bind done arguments arguments_of values_after values in_order value
+returns-in_err-next_number-in-15-2 c =
+    let one = read_good number _ c.in_ok-next_number-in-15.ensures in
+    let no = then_bad number one c.in_err-next_number-in-15-2.ensures in
+    rw (c.in-15.is, c.from_residual-in_err-next_number-in-15-2.ensures) (record { is = rw (one.is, no); says = rw (one.is, no); there = tt })
+
+pub returns-in_ok-next_number-in-15-2 : goal.returns-in_ok-next_number-in-15-2
+unfolding behind ◌>>=◌ bind done arguments arguments_of values_after values in_order value
+returns-in_ok-next_number-in-15-2 c =
+    let one = read_good number _ c.in_ok-next_number-in-15.ensures in
+    let two = then_good number one c.in_ok-next_number-in-15-2.ensures in
+    rw c.in-15.is (record { is = rw (one.is, two.is); says = rw (one.is, two.is); there = tt })
 
 pub returns-in_default : goal.returns-in_default
+unfolding behind
 returns-in_default c = record { is = unknown _ _ _ c.in_default.in_default-own.rest; says = unknown_values _ _ _ c.in_default.in_default-own.rest; there = tt }

@@ -1,14 +1,27 @@
 -- `event_reader::read_event` meets its contract. The number of the event, and then its arguments. Assumes nothing.
 use mathlib.Core.Option.{bind}
-use Rattle.events.proofs.Reading.{number_good, number_bad}
-use Rattle.events.specs.Events.{◌>>=◌, read_event}
+use Rattle.events.specs.Events.{◌>>=◌, number, read_event}
 use Rattle.events.specs.Values.{read_values}
+use Rattle.reader.specs.Cursor.{behind}
+use Rattle.reader.proofs.Reading.{read_good, read_bad}
 use Rattle.event_reader.proofs.read_event.Goals as goal
 
-pub returns-in_default : goal.returns-in_default
+pub returns-in_err-kind : goal.returns-in_err-kind
 unfolding ◌>>=◌ bind read_event read_values
-returns-in_default c = let n = number_bad _ _ _ c.read_number.ensures c.in_default.is in record { is = rw n; says = rw n; there = tt }
+returns-in_err-kind c =
+    let no = rw c.new-r.ensures at (read_bad number c.new-r.result c.in_err-kind.ensures) in
+    rw c.from_residual.ensures (record { is = rw no; says = rw no; there = tt })
+
+pub returns-in_err-event : goal.returns-in_err-event
+unfolding ◌>>=◌ bind read_event read_values behind
+returns-in_err-event c =
+    let to_kind = rw c.new-r.ensures at (read_good number c.new-r.result c.in_ok-kind.ensures) in
+    let no = rw to_kind.on at c.in_err-event.ensures in
+    rw c.from_residual-in_err-event.ensures (record { is = rw to_kind.is no.is; says = rw to_kind.is no.says; there = tt })
 
 pub returns : goal.returns
-unfolding ◌>>=◌ bind read_event read_values
-returns c = let p = number_good _ _ _ c.read_number.ensures c.in-Value.is in record { is = rw p c.arguments.ensures.is; says = rw p c.arguments.ensures.says; there = c.arguments.ensures.there }
+unfolding ◌>>=◌ bind read_event read_values behind
+returns c =
+    let to_kind = rw c.new-r.ensures at (read_good number c.new-r.result c.in_ok-kind.ensures) in
+    let event = rw to_kind.on at c.in_ok-event.ensures in
+    record { is = rw to_kind.is event.is; says = rw to_kind.is event.says; there = event.there }

@@ -6,33 +6,30 @@ use lib.ListN.{length}
 use Rattle.candump.specs.Line.{second}
 use Rattle.candump.specs.Log.{latest}
 use Rattle.exporting.specs.Pieces.{event_at, latest_at, goes_on, written}
-use Rattle.exporting.proofs.Promise.{event_inside, no_room, too_late, at_end_law, too_long, is_piece, begins_early, nothing_written}
+use Rattle.exporting.proofs.Promise.{event_inside, no_room, too_late, at_end_law, too_long, is_piece, begins_early}
 use Rattle.exporting.proofs.export.Goals as goal
 
 pub returns-then-out-lt-LINE_ROOM : goal.returns-then-out-lt-LINE_ROOM
 returns-then-out-lt-LINE_ROOM c =
     let a = c.args in
-    nothing_written c.stays.result 0x04 a.at a.time a.out.now c.stays.ensures ∙ no_room a.time a.recording.now a.at a.out.now c.if-out-lt-LINE_ROOM.true
+    no_room a.time a.recording.now a.at a.out.now c.if-out-lt-LINE_ROOM.true
 
 pub returns-then-time-latest_at : goal.returns-then-time-latest_at
 returns-then-time-latest_at c =
     let a = c.args in
-    nothing_written c.stays-then-time-latest_at.result 0x0A a.at a.time a.out.now c.stays-then-time-latest_at.ensures
-    ∙ too_late a.time a.recording.now a.at a.out.now c.if-out-lt-LINE_ROOM.false (omega (arith, c.latest_at.ensures, c.if-time-latest_at.true))
+    too_late a.time a.recording.now a.at a.out.now c.if-out-lt-LINE_ROOM.false (omega (arith, c.latest_at.ensures, c.if-time-latest_at.true))
 
 pub returns-then-at-recording : goal.returns-then-at-recording
 returns-then-at-recording c =
     let a = c.args in
     let early : a.time ≤ latest_at a.at = omega (arith, c.latest_at.ensures, c.if-time-latest_at.false) in
-    nothing_written c.stays-then-at-recording.result 0x00 a.at a.time a.out.now c.stays-then-at-recording.ensures
-    ∙ at_end_law a.time a.recording.now a.at a.out.now c.if-out-lt-LINE_ROOM.false early c.if-at-recording.true
+    at_end_law a.time a.recording.now a.at a.out.now c.if-out-lt-LINE_ROOM.false early c.if-at-recording.true
 
 pub returns-then-recording-gt-LONGEST : goal.returns-then-recording-gt-LONGEST
 returns-then-recording-gt-LONGEST c =
     let a = c.args in
     let early : a.time ≤ latest_at a.at = omega (arith, c.latest_at.ensures, c.if-time-latest_at.false) in
-    nothing_written c.stays-then-recording-gt-LONGEST.result 0x00 (length a.recording.now) a.time a.out.now c.stays-then-recording-gt-LONGEST.ensures
-    ∙ too_long a.time a.recording.now a.at a.out.now c.if-out-lt-LINE_ROOM.false early c.if-at-recording.false c.if-recording-gt-LONGEST.true
+    too_long a.time a.recording.now a.at a.out.now c.if-out-lt-LINE_ROOM.false early c.if-at-recording.false c.if-recording-gt-LONGEST.true
 
 -- where the events begin, and what the tests that were passed say
 pub export_events-end-requires : goal.export_events-end-requires

@@ -17,10 +17,10 @@ returns-in_default c =
 -- the event that was read
 pub export_event-turn-requires : goal.export_event-turn-requires
 export_event-turn-requires c =
-    (subst (FoundThere c.args.recording.now) c.in-Good.is c.read_event.ensures.there, c.requires.0, c.requires.1)
+    (subst (FoundThere c.args.recording.now) c.in-Some.is c.read_event.ensures.there, c.requires.0, c.requires.1)
 
 pub returns : goal.returns
 returns c =
-    subst (λ (o : Option (machine.Event × ℕ)). Reaches (length c.args.recording.now) o c.args.time c.args.out.now c.args.place c.in-Good.next c.export_event-turn.result.time c.export_event-turn.result.place c.export_event-turn.new.out)
-    (sym (ap (found_of c.args.recording.now) c.in-Good.is) ∙ c.read_event.ensures.is)
+    subst (λ (o : Option (machine.Event × ℕ)). Reaches (length c.args.recording.now) o c.args.time c.args.out.now c.args.place c.in-Some.next c.export_event-turn.result.time c.export_event-turn.result.place c.export_event-turn.new.out)
+    (sym (ap (found_of c.args.recording.now) c.in-Some.is) ∙ c.read_event.ensures.is)
     (refl, c.export_event-turn.ensures)

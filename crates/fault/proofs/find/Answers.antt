@@ -16,10 +16,10 @@ pub returns-in_default : goal.returns-in_default
 returns-in_default c = stopped c.loop-at.invariant.0 c.loop-at-test.true _ c.read_event.ensures c.loop-at.invariant.1 c.in_default.is _ c.event-spot.ensures
 
 pub loop-at-smaller : goal.loop-at-smaller
-loop-at-smaller c = let f = further c.loop-at.invariant.0 c.loop-at-test.true _ c.read_event.ensures c.in-Good.is in omega (arith, f.0, f.1)
+loop-at-smaller c = let f = further c.loop-at.invariant.0 c.loop-at-test.true _ c.read_event.ensures c.in-Some.is in omega (arith, f.0, f.1)
 
 pub loop-at-preserved : goal.loop-at-preserved
-loop-at-preserved c = (goes_on c.loop-at.invariant.0 c.loop-at-test.true _ c.read_event.ensures c.in-Good.is, c.loop-at.invariant.1)
+loop-at-preserved c = (goes_on c.loop-at.invariant.0 c.loop-at-test.true _ c.read_event.ensures c.in-Some.is, c.loop-at.invariant.1)
 
 pub returns : goal.returns
 returns c = ended c.loop-at.invariant.0 c.loop-at.invariant.1 c.loop-at-test.false

@@ -15,4 +15,4 @@ returns-in_default c = number_bad _ _ (λ (v n : ℕ). spot 0 n) _ c.read_number
 
 pub returns : goal.returns
 unfolding number_after
-returns c = number_good _ _ (λ (v n : ℕ). spot 0 n) _ c.read_number.ensures c.in-Value.is ∙ sym (goes_on _ _ c.if-before-ne-GOOD.false)
+returns c = number_good _ _ (λ (v n : ℕ). spot 0 n) _ c.read_number.ensures c.in-Some.is ∙ sym (goes_on _ _ c.if-before-ne-GOOD.false)

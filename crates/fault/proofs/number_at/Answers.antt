@@ -9,4 +9,4 @@ returns-in_default c = ap told (sym c.in_default.is ∙ c.read_number.ensures)
 
 pub returns : goal.returns
 unfolding told
-returns c = ap told (sym c.in-Value.is ∙ c.read_number.ensures)
+returns c = ap told (sym c.in-Some.is ∙ c.read_number.ensures)

@@ -14,19 +14,19 @@ pub returns-in_default : goal.returns-in_default
 unfolding pieces_after
 returns-in_default c = number_bad _ _ (pieces_from _ _ _) _ c.read_number.ensures c.in_default.is c.why-reason.ensures ∙ sym (goes_on _ _ c.if-before-ne-GOOD.false)
 
-pub returns-then-value-gt-MOST : goal.returns-then-value-gt-MOST
+pub returns-then-n-gt-MOST : goal.returns-then-n-gt-MOST
 unfolding pieces_after
-returns-then-value-gt-MOST c =
+returns-then-n-gt-MOST c =
     let a = c.args in
-    too_many a.unit a.recording.now a.before.at _ _ c.if-value-gt-MOST.true
-    ∙ number_good _ _ (pieces_from a.unit a.recording.now a.before.at) _ c.read_number.ensures c.in-Value.is ∙ sym (goes_on _ _ c.if-before-ne-GOOD.false)
+    too_many a.unit a.recording.now a.before.at _ _ c.if-n-gt-MOST.true
+    ∙ number_good _ _ (pieces_from a.unit a.recording.now a.before.at) _ c.read_number.ensures c.in-Some.is ∙ sym (goes_on _ _ c.if-before-ne-GOOD.false)
 
 pub overflow_mul-unit : goal.overflow_mul-unit
-overflow_mul-unit c = omega (arith, mul-le-mul c.requires c.if-value-gt-MOST.false)
+overflow_mul-unit c = omega (arith, mul-le-mul c.requires c.if-n-gt-MOST.false)
 
 pub returns : goal.returns
 unfolding pieces_after
 returns c =
     let a = c.args in
-    c.bytes.ensures ∙ few_enough a.unit a.recording.now a.before.at _ _ c.if-value-gt-MOST.false
-    ∙ number_good _ _ (pieces_from a.unit a.recording.now a.before.at) _ c.read_number.ensures c.in-Value.is ∙ sym (goes_on _ _ c.if-before-ne-GOOD.false)
+    c.bytes.ensures ∙ few_enough a.unit a.recording.now a.before.at _ _ c.if-n-gt-MOST.false
+    ∙ number_good _ _ (pieces_from a.unit a.recording.now a.before.at) _ c.read_number.ensures c.in-Some.is ∙ sym (goes_on _ _ c.if-before-ne-GOOD.false)

@@ -1,35 +1,27 @@
 -- `filterbank::first_free` meets its contract. The invariant: the first i places are taken. Assumes nothing.
-use mathlib.Core.Path.{sym}
-use native.Mathlib.Nat.{zero-add}
 use native.Mathlib.Omega.{arith}
-use Rattle.machine.specs.Filter.{free}
 use Rattle.machine.proofs.Slots.{free_more, free_here, free_all}
 use Rattle.layout.specs.Memory.{filters}
 use Rattle.filterbank.proofs.Held.{ten_held, is_empty, is_taken}
 use Rattle.filterbank.proofs.first_free.Goals as goal
-
-pub loop-i-init : goal.loop-i-init
-loop-i-init c = (omega arith, λ flags. sym (zero-add (free ((filters flags).get c.args.part.now))))
 
 pub returns-then-part-i-eq0 : goal.returns-then-part-i-eq0
 returns-then-part-i-eq0 c =
     let l = c.loop-i in
     λ flags.
     let h = ten_held c.args.part.now c.requires flags in
-    free_here ((filters flags).get c.args.part.now) l.i (omega arith) (l.invariant.1 flags) (is_empty c.args.part.now c.requires l.i (omega arith) c.if-part-i-eq0.true flags)
+    free_here ((filters flags).get c.args.part.now) l.i (omega arith) (l.invariant flags) (is_empty c.args.part.now c.requires l.i (omega arith) c.if-part-i-eq0.true flags)
 
 pub loop-i-preserved : goal.loop-i-preserved
 loop-i-preserved c =
-    let l = c.loop-i in (
-      omega arith,
-      λ flags.
-          let h = ten_held c.args.part.now c.requires flags in
-          free_more ((filters flags).get c.args.part.now) l.i (omega arith) (l.invariant.1 flags) (is_taken c.args.part.now c.requires l.i (omega arith) c.if-part-i-eq0.false flags),
-    )
+    let l = c.loop-i in
+    λ flags.
+    let h = ten_held c.args.part.now c.requires flags in
+    free_more ((filters flags).get c.args.part.now) l.i (omega arith) (l.invariant flags) (is_taken c.args.part.now c.requires l.i (omega arith) c.if-part-i-eq0.false flags)
 
 pub returns : goal.returns
 returns c =
     let l = c.loop-i in
     λ flags.
     let h = ten_held c.args.part.now c.requires flags in
-    free_all ((filters flags).get c.args.part.now) l.i (omega arith) (l.invariant.1 flags)
+    omega (arith, free_all ((filters flags).get c.args.part.now) l.i (omega arith) (l.invariant flags))

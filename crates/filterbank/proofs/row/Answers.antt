@@ -1,21 +1,17 @@
--- `filterbank::row` meets its contract. The invariant: the first b bytes are the memory's, zeros behind them. Assumes nothing.
-use mathlib.Core.Path.{◌≡◌, refl}
+-- `filterbank::row` meets its contract: the memory's bytes in front, zeros behind them. Assumes nothing.
+use mathlib.Core.Path.{◌≡◌, ap, ◌∙◌}
+use mathlib.Core.List.{List, ◌++◌}
+use Prim.Native.Nat.{ℕ, ◌+◌, ◌-◌}
 use native.Mathlib.Omega.{arith}
-use Rattle.filterbank.proofs.Rows.{row_more, row_done}
+use lib.ListN.{take, drop}
+use Rattle.codec.specs.Plain.{zeros}
+use Rattle.machine.specs.Limits.{most_data}
+use Rattle.filterbank.proofs.Rows.{row_done}
 use Rattle.filterbank.proofs.row.Goals as goal
-
-pub loop-b-init : goal.loop-b-init
-loop-b-init c = (omega arith, refl)
-
-pub loop-b-preserved : goal.loop-b-preserved
-loop-b-preserved c =
-    let l = c.loop-b in
-    let a = c.args in
-    (omega arith, row_more a.mem.now a.at l.b l.out (omega arith) (omega arith) l.invariant.1)
 
 pub returns : goal.returns
 returns c =
-    let l = c.loop-b in
     let a = c.args in
-    let e : l.b ≡ a.size = omega arith in
-    row_done a.mem.now a.at a.size l.out (omega arith) (omega arith) (rw e at l.invariant.1)
+    let n : a.at + a.size - a.at ≡ a.size = omega arith in
+    row_done a.mem.now a.at a.size _ (omega arith) (omega arith)
+    (ap (λ (l : List ℕ). l ++ drop a.size (zeros most_data)) (c.copy_from_slice.ensures.after ∙ ap (λ (k : ℕ). take k (drop a.at a.mem.now)) n))

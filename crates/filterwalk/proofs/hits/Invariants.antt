@@ -1,7 +1,7 @@
 use mathlib.Core.Path.{◌≡◌}
 use mathlib.Core.Bool.{true}
 use mathlib.Core.List.{[]}
-use Prim.Native.Nat.{◌-◌, ◌≤◌}
+use Prim.Native.Nat.{◌≤◌}
 use lib.ListN.{get_or, take}
 use Rattle.codec.specs.Plain.{all_below}
 use Rattle.machine.specs.Limits.{most_data}
@@ -9,13 +9,7 @@ use Rattle.filterwalk.proofs.Looks.{fits_at, Looked}
 use Rattle.filterwalk.proofs.hits.Given as goal
 
 abbrev pub invariant-loop-b : goal.invariant-loop-b
-invariant-loop-b l = (l.b ≤ l.size) × (l.size ≤ most_data) × (all_below l.b (fits_at (take l.len l.frame) (get_or l.masks l.f []) (get_or l.patterns l.f [])) ≡ true)
-
-abbrev pub decreases-loop-b : goal.decreases-loop-b
-decreases-loop-b l = l.size - l.b
+invariant-loop-b l = (l.size ≤ most_data) × (all_below l.b (fits_at (take l.len l.frame) (get_or l.masks l.f []) (get_or l.patterns l.f [])) ≡ true)
 
 abbrev pub invariant-filters : goal.invariant-filters
-invariant-filters l = Looked l.heads l.masks l.patterns l.kind l.wide (take l.len l.frame) l.next
-
-abbrev pub decreases-filters : goal.decreases-filters
-decreases-filters l = l.end - l.next
+invariant-filters l = Looked l.heads l.masks l.patterns l.kind l.wide (take l.len l.frame) l.f

@@ -1,59 +1,52 @@
 -- `importing::import_lines` meets its contract. The invariant: what is left of the import is that of the lines from a place on. Assumes nothing.
-use Prim.Native.Nat.{ℕ, ◌≤◌}
-use mathlib.Core.Path.{◌∙◌}
+use Prim.Native.Nat.{ℕ, ◌+◌, ◌≤◌}
+use mathlib.Core.Path.{◌≡◌, refl, ◌∙◌}
 use native.Mathlib.Omega.{arith}
-use lib.ListN.{length}
+use lib.ListN.{length, drop}
 use Rattle.text_reader.specs.Reading.{before}
-use Rattle.importing.proofs.Lines.{nothing_yet, on_time, all_taken, end_inside, stops, goes_on}
+use Rattle.text_reader.proofs.Finding.{first_or_end}
+use Rattle.candump.specs.Log.{newline}
+use Rattle.importing.proofs.Lines.{reason_some, nothing_yet, all_taken, end_inside, stops, goes_on}
 use Rattle.importing.proofs.import_lines.Goals as goal
 
 pub loop-at-init : goal.loop-at-init
-loop-at-init c = nothing_yet _ _ _ c.requires.0
+loop-at-init c =
+    nothing_yet _ _ _ c.requires.0
 
 pub slice_bounds-take_line-count : goal.slice_bounds-take_line-count
-slice_bounds-take_line-count c = (end_inside c.loop-at.invariant c.requires.1 c.loop-at-test.true c.find-end.result c.find-end.ensures).0
+slice_bounds-take_line-count c =
+    let end : c.unwrap_or-end.result ≡ c.loop-at.at + before newline (drop c.loop-at.at c.args.log.now) = c.unwrap_or-end.ensures ∙ first_or_end newline c.args.log.now c.loop-at.at c.find.result c.find.ensures (omega (arith, c.loop-at-test.true)) in
+    let inside : (c.loop-at.at ≤ c.unwrap_or-end.result) × (c.unwrap_or-end.result ≤ length c.args.log.now) = end_inside c.loop-at.invariant c.requires.1 c.loop-at-test.true c.unwrap_or-end.result end in
+    inside.0
 
 pub slice_bounds-take_line-start : goal.slice_bounds-take_line-start
 slice_bounds-take_line-start c =
-    let inside : (c.loop-at.at ≤ c.find-end.result) × (c.find-end.result ≤ length c.args.log.now) = end_inside c.loop-at.invariant c.requires.1 c.loop-at-test.true c.find-end.result c.find-end.ensures in
+    let end : c.unwrap_or-end.result ≡ c.loop-at.at + before newline (drop c.loop-at.at c.args.log.now) = c.unwrap_or-end.ensures ∙ first_or_end newline c.args.log.now c.loop-at.at c.find.result c.find.ensures (omega (arith, c.loop-at-test.true)) in
+    let inside : (c.loop-at.at ≤ c.unwrap_or-end.result) × (c.unwrap_or-end.result ≤ length c.args.log.now) = end_inside c.loop-at.invariant c.requires.1 c.loop-at-test.true c.unwrap_or-end.result end in
     omega (arith, inside.0, inside.1)
 
 pub slice_bounds-take_line-end : goal.slice_bounds-take_line-end
 slice_bounds-take_line-end c =
-    let inside : (c.loop-at.at ≤ c.find-end.result) × (c.find-end.result ≤ length c.args.log.now) = end_inside c.loop-at.invariant c.requires.1 c.loop-at-test.true c.find-end.result c.find-end.ensures in
+    let end : c.unwrap_or-end.result ≡ c.loop-at.at + before newline (drop c.loop-at.at c.args.log.now) = c.unwrap_or-end.ensures ∙ first_or_end newline c.args.log.now c.loop-at.at c.find.result c.find.ensures (omega (arith, c.loop-at-test.true)) in
+    let inside : (c.loop-at.at ≤ c.unwrap_or-end.result) × (c.unwrap_or-end.result ≤ length c.args.log.now) = end_inside c.loop-at.invariant c.requires.1 c.loop-at-test.true c.unwrap_or-end.result end in
     omega (arith, inside.0, inside.1)
 
-pub take_line-step-requires : goal.take_line-step-requires
-take_line-step-requires c =
-    let k = c.loop-at.invariant in
-    (on_time k c.requires.1, omega (arith, k.same_length, c.requires.1), k.short)
-
-pub overflow_add-lines : goal.overflow_add-lines
-overflow_add-lines c = omega (arith, c.loop-at.invariant.few, c.loop-at-test.true)
-
-pub shape_of-out-then-step-ne-GOES_ON : goal.shape_of-out-then-step-ne-GOES_ON
-shape_of-out-then-step-ne-GOES_ON c = c.take_line-step.auto.out ∙ c.loop-at.invariant.same_length
-
-pub returns-then-step-ne-GOES_ON : goal.returns-then-step-ne-GOES_ON
-returns-then-step-ne-GOES_ON c =
-    stops c.loop-at.invariant c.requires.1 c.loop-at-test.true c.find-end.result c.find-end.ensures _ _ _ _ c.take_line-step.ensures c.if-step-ne-GOES_ON.true
-
-pub overflow_add-at : goal.overflow_add-at
-overflow_add-at c =
-    let inside : (c.loop-at.at ≤ c.find-end.result) × (c.find-end.result ≤ length c.args.log.now) = end_inside c.loop-at.invariant c.requires.1 c.loop-at-test.true c.find-end.result c.find-end.ensures in
-    omega (arith, inside.1)
+pub returns-in-Err : goal.returns-in-Err
+returns-in-Err c =
+    let end : c.unwrap_or-end.result ≡ c.loop-at.at + before newline (drop c.loop-at.at c.args.log.now) = c.unwrap_or-end.ensures ∙ first_or_end newline c.args.log.now c.loop-at.at c.find.result c.find.ensures (omega (arith, c.loop-at-test.true)) in
+    stops c.loop-at.invariant c.requires.1 c.loop-at-test.true c.unwrap_or-end.result end _ _ _ _ c.in-Err.ensures (reason_some c.in-Err.why)
 
 pub loop-at-smaller : goal.loop-at-smaller
 loop-at-smaller c =
-    let inside : (c.loop-at.at ≤ c.find-end.result) × (c.find-end.result ≤ length c.args.log.now) = end_inside c.loop-at.invariant c.requires.1 c.loop-at-test.true c.find-end.result c.find-end.ensures in
+    let end : c.unwrap_or-end.result ≡ c.loop-at.at + before newline (drop c.loop-at.at c.args.log.now) = c.unwrap_or-end.ensures ∙ first_or_end newline c.args.log.now c.loop-at.at c.find.result c.find.ensures (omega (arith, c.loop-at-test.true)) in
+    let inside : (c.loop-at.at ≤ c.unwrap_or-end.result) × (c.unwrap_or-end.result ≤ length c.args.log.now) = end_inside c.loop-at.invariant c.requires.1 c.loop-at-test.true c.unwrap_or-end.result end in
     omega (arith, inside.0, inside.1)
 
 pub loop-at-preserved : goal.loop-at-preserved
 loop-at-preserved c =
-    goes_on c.loop-at.invariant c.requires.1 c.loop-at-test.true c.find-end.result c.find-end.ensures _ _ _ _ c.take_line-step.ensures c.if-step-ne-GOES_ON.false
-
-pub shape_of-out : goal.shape_of-out
-shape_of-out c = c.loop-at.invariant.same_length
+    let end : c.unwrap_or-end.result ≡ c.loop-at.at + before newline (drop c.loop-at.at c.args.log.now) = c.unwrap_or-end.ensures ∙ first_or_end newline c.args.log.now c.loop-at.at c.find.result c.find.ensures (omega (arith, c.loop-at-test.true)) in
+    goes_on c.loop-at.invariant c.requires.1 c.loop-at-test.true c.unwrap_or-end.result end _ _ _ _ c.in-Ok.ensures refl
 
 pub returns : goal.returns
-returns c = all_taken c.loop-at.invariant c.requires.1 c.loop-at-test.false
+returns c =
+    all_taken c.loop-at.invariant c.requires.1 c.loop-at-test.false

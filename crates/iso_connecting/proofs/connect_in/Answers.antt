@@ -1,28 +1,29 @@
 -- `iso_connecting::connect_in` meets its contract: by the tests, by the open mark, by what is stored over zeros. Assumes nothing.
 use native.Mathlib.Omega.{arith}
-use borrow.Rule.Slice.PartMut.{put_mid}
-use mathlib.Core.Path.{sym, ◌∙◌}
-use lib.ListN.{length-set}
-use Rattle.layout.specs.Sizes.{flags_at, rate_at, number_size}
+use Rattle.std.proofs.lemmas.Result.{err_from_is_err_and}
+use Rattle.codes.proofs.Laws.{not_done}
+use Rattle.connecting.proofs.Opening.{refused_open, opened_now}
 use Rattle.iso_connecting.proofs.Laws.{connect_refused, connect_in_use, connect_fresh}
 use Rattle.iso_connecting.proofs.connect_in.Goals as goal
 
-pub returns-then-code-ne-STATUS_NOERROR : goal.returns-then-code-ne-STATUS_NOERROR
-returns-then-code-ne-STATUS_NOERROR c =
+pub returns-in_err-connect_code : goal.returns-in_err-connect_code
+returns-in_err-connect_code c =
     let a = c.args in
-    connect_refused a.r.now c.requires.0 c.requires.1 a.rates.now a.line a.protocol a.flags a.rate _ c.connect_code-code.ensures c.if-code-ne-STATUS_NOERROR.true
+    let p = err_from_is_err_and c.from_residual.result c.from_residual.ensures.1 in
+    rw (p.1, p.2) (connect_refused a.r.now c.requires.0 c.requires.1 a.rates.now a.line a.protocol a.flags a.rate _ c.in_err-connect_code.ensures (not_done c.in_err-connect_code.field-0.0))
 
-pub returns-then-r-ne0 : goal.returns-then-r-ne0
-returns-then-r-ne0 c =
+pub open-requires : goal.open-requires
+open-requires c = omega (arith, c.requires.0)
+
+pub returns-in_err-open : goal.returns-in_err-open
+returns-in_err-open c =
     let a = c.args in
-    connect_in_use a.r.now c.requires.0 c.requires.1 a.rates.now a.line a.protocol a.flags a.rate (sym c.if-code-ne-STATUS_NOERROR.false ∙ c.connect_code-code.ensures) c.if-r-ne0.true
-
-pub shape_of-r : goal.shape_of-r
-shape_of-r c =
-    omega (arith, length-set (put_mid rate_at number_size (put_mid flags_at number_size c.args.r.now c.put_word.new.s) c.put_word-2.new.s) 0 1)
+    let p = err_from_is_err_and c.from_residual-in_err-open.result c.from_residual-in_err-open.ensures.1 in
+    let told = refused_open a.r.now a.flags a.rate _ _ c.in_err-open.ensures (not_done c.in_err-open.field-0.0) in
+    rw (p.1, p.2, told.1.0, told.1.1) (connect_in_use a.r.now c.requires.0 c.requires.1 a.rates.now a.line a.protocol a.flags a.rate c.in_ok-connect_code.ensures told.0)
 
 pub returns : goal.returns
 returns c =
     let a = c.args in
-    connect_fresh a.r.now c.requires.0 c.requires.1 a.rates.now a.line a.protocol a.flags a.rate (sym c.if-code-ne-STATUS_NOERROR.false ∙ c.connect_code-code.ensures) c.if-r-ne0.false _ _
-    c.put_word.ensures c.put_word-2.ensures
+    let told = opened_now a.r.now a.flags a.rate _ c.in_ok-open.ensures in
+    rw told.1 (connect_fresh a.r.now c.requires.0 c.requires.1 a.rates.now a.line a.protocol a.flags a.rate c.in_ok-connect_code.ensures told.0)

@@ -14,17 +14,17 @@ returns-then-id-word_at c =
 pub returns-in-Nothing : goal.returns-in-Nothing
 unfolding after_join
 returns-in-Nothing c =
-    connecting_turns c.args.part.now c.requires.0 c.args.id c.args.bytes.now c.requires.1 _ c.word_at.ensures.0 c.if-id-word_at.false c.join_in-j.result c.join_in-j.ensures c.args.part.now
+    connecting_turns c.args.part.now c.requires.0 c.args.id c.args.bytes.now c.requires.1 _ c.word_at.ensures.0 c.if-id-word_at.false c.join_in.result c.join_in.ensures c.args.part.now
     (λ a tx n t e. sym (kept c.args.part.now c.requires.0) ∙ ap connection_part.put (e ∙ sym (ap (λ (x : Turn). after_join x a tx n t) c.in-Nothing.is)))
 
 pub returns-in-Stands : goal.returns-in-Stands
 unfolding after_join
 returns-in-Stands c =
-    connecting_turns c.args.part.now c.requires.0 c.args.id c.args.bytes.now c.requires.1 _ c.word_at.ensures.0 c.if-id-word_at.false c.join_in-j.result c.join_in-j.ensures _
+    connecting_turns c.args.part.now c.requires.0 c.args.id c.args.bytes.now c.requires.1 _ c.word_at.ensures.0 c.if-id-word_at.false c.join_in.result c.join_in.ensures _
     (λ a tx n t e. c.stand.ensures a tx n t e ∙ ap connection_part.put (sym (ap (λ (x : Turn). after_join x a tx n t) c.in-Stands.is)))
 
 pub returns-in-Over : goal.returns-in-Over
 unfolding after_join
 returns-in-Over c =
-    connecting_turns c.args.part.now c.requires.0 c.args.id c.args.bytes.now c.requires.1 _ c.word_at.ensures.0 c.if-id-word_at.false c.join_in-j.result c.join_in-j.ensures _
+    connecting_turns c.args.part.now c.requires.0 c.args.id c.args.bytes.now c.requires.1 _ c.word_at.ensures.0 c.if-id-word_at.false c.join_in.result c.join_in.ensures _
     (λ a tx n t e. gone c.args.part.now _ c.requires.0 c.zero.ensures ∙ ap connection_part.put (sym (ap (λ (x : Turn). after_join x a tx n t) c.in-Over.is)))

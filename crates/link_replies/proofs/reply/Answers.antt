@@ -14,17 +14,17 @@ returns-then-id-wide c =
 pub returns-in-Nothing : goal.returns-in-Nothing
 unfolding after_reply
 returns-in-Nothing c =
-    opening_turns c.args.part.now c.requires.0 c.args.id c.args.bytes.now c.requires.1 _ c.wide.ensures.0 c.if-id-wide.false _ c.word_at-rx.ensures.0 c.reply_in-r.result c.reply_in-r.ensures c.args.part.now
+    opening_turns c.args.part.now c.requires.0 c.args.id c.args.bytes.now c.requires.1 _ c.wide.ensures.0 c.if-id-wide.false _ c.word_at-rx.ensures.0 c.reply_in.result c.reply_in.ensures c.args.part.now
     (λ a n t e. sym (kept c.args.part.now c.requires.0) ∙ ap connection_part.put (e ∙ sym (ap (λ (x : Means). after_reply x a n t) c.in-Nothing.is)))
 
 pub returns-in-Positive : goal.returns-in-Positive
 unfolding after_reply
 returns-in-Positive c =
-    opening_turns c.args.part.now c.requires.0 c.args.id c.args.bytes.now c.requires.1 _ c.wide.ensures.0 c.if-id-wide.false _ c.word_at-rx.ensures.0 c.reply_in-r.result c.reply_in-r.ensures _
+    opening_turns c.args.part.now c.requires.0 c.args.id c.args.bytes.now c.requires.1 _ c.wide.ensures.0 c.if-id-wide.false _ c.word_at-rx.ensures.0 c.reply_in.result c.reply_in.ensures _
     (λ a n t e. c.connect.ensures a n t e ∙ ap connection_part.put (sym (ap (λ (x : Means). after_reply x a n t) c.in-Positive.is)))
 
 pub returns-in-Negative : goal.returns-in-Negative
 unfolding after_reply
 returns-in-Negative c =
-    opening_turns c.args.part.now c.requires.0 c.args.id c.args.bytes.now c.requires.1 _ c.wide.ensures.0 c.if-id-wide.false _ c.word_at-rx.ensures.0 c.reply_in-r.result c.reply_in-r.ensures _
+    opening_turns c.args.part.now c.requires.0 c.args.id c.args.bytes.now c.requires.1 _ c.wide.ensures.0 c.if-id-wide.false _ c.word_at-rx.ensures.0 c.reply_in.result c.reply_in.ensures _
     (λ a n t e. gone c.args.part.now _ c.requires.0 c.zero.ensures ∙ ap connection_part.put (sym (ap (λ (x : Means). after_reply x a n t) c.in-Negative.is)))

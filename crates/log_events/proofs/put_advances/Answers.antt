@@ -7,13 +7,13 @@ use Rattle.log_events.proofs.put_advances.Goals as goal
 pub loop-k-init : goal.loop-k-init
 loop-k-init c = none_filled _ _ _ c.requires
 
-pub put_pair-next-requires : goal.put_pair-next-requires
-put_pair-next-requires c =
+pub put_pair-place-requires : goal.put_pair-place-requires
+put_pair-place-requires c =
     full_fits _ _ _ c.requires _ _ _ c.loop-k.invariant c.loop-k-test.true
 
 pub loop-k-preserved : goal.loop-k-preserved
 loop-k-preserved c =
-    one_filled _ _ _ c.requires _ _ _ c.loop-k.invariant c.loop-k-test.true _ _ c.put_pair-next.ensures
+    one_filled _ _ _ c.requires _ _ _ c.loop-k.invariant c.loop-k-test.true _ _ c.put_pair-place.ensures
 
 pub shape_of-out-then-rest-lt1 : goal.shape_of-out-then-rest-lt1
 shape_of-out-then-rest-lt1 c = c.loop-k.invariant.same_length

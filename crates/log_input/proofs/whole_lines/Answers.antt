@@ -19,20 +19,8 @@ loop-i-preserved c =
 pub loop-i-init : goal.loop-i-init
 loop-i-init c = none_looked _
 
-pub bounds-log-i : goal.bounds-log-i
-bounds-log-i c = omega arith
-
-pub overflow_add-end : goal.overflow_add-end
-overflow_add-end c = omega arith
-
 pub overflow_add-line : goal.overflow_add-line
 overflow_add-line c = omega (arith, c.loop-i.invariant.few)
-
-pub overflow_add-i : goal.overflow_add-i
-overflow_add-i c = omega arith
-
-pub loop-i-smaller : goal.loop-i-smaller
-loop-i-smaller c = omega arith
 
 pub returns : goal.returns
 returns c = all_looked c.loop-i.invariant c.loop-i-test.false

@@ -11,31 +11,27 @@ use Rattle.log_writer.proofs.Writing.{Writing, begun, fits, on, all_written}
 use Rattle.log_writer.proofs.Texts.{data_more, data_end}
 use Rattle.log_writer.proofs.put_data.Goals as goal
 
-pub loop-i-init : goal.loop-i-init
-loop-i-init c = (omega arith, refl, begun _ _ _ c.requires)
+pub loop-byte-init : goal.loop-byte-init
+loop-byte-init c = (refl, begun _ _ _ c.requires)
 
-pub overflow_cast-bytes : goal.overflow_cast-bytes
-overflow_cast-bytes c = omega (arith, c.shared_slice_known-in-loop-i-1.given c.loop-i.i)
-
-pub put_fixed-next-requires : goal.put_fixed-next-requires
-put_fixed-next-requires c =
+pub put_fixed-place-requires : goal.put_fixed-place-requires
+put_fixed-place-requires c =
     -- a byte is next
-    let here : Writing c.args.out.now c.args.at (data_text c.args.bytes.now) (fixed 16 2 (get_or c.args.bytes.now c.loop-i.i 0) ++ data_text (drop (c.loop-i.i + 1) c.args.bytes.now)) c.loop-i.place c.loop-i.out =
-    subst (λ (l : List ℕ). Writing c.args.out.now c.args.at (data_text c.args.bytes.now) l c.loop-i.place c.loop-i.out) (data_more c.args.bytes.now c.loop-i.i c.loop-i-test.true) c.loop-i.invariant.2 in
-    (omega arith, omega arith, omega (arith, fixed_long 16 2 (get_or c.args.bytes.now c.loop-i.i 0), fits (fixed 16 2 (get_or c.args.bytes.now c.loop-i.i 0)) (data_text (drop (c.loop-i.i + 1) c.args.bytes.now)) here))
+    let here : Writing c.args.out.now c.args.at (data_text c.args.bytes.now) (fixed 16 2 (get_or c.args.bytes.now c.loop-byte.byte-index 0) ++ data_text (drop (c.loop-byte.byte-index + 1) c.args.bytes.now)) c.loop-byte.place c.loop-byte.out =
+    subst (λ (l : List ℕ). Writing c.args.out.now c.args.at (data_text c.args.bytes.now) l c.loop-byte.place c.loop-byte.out) (data_more c.args.bytes.now c.loop-byte.byte-index c.loop-byte-test.true) c.loop-byte.invariant.1 in
+    (omega arith, omega arith, omega (arith, fixed_long 16 2 (get_or c.args.bytes.now c.loop-byte.byte-index 0), fits (fixed 16 2 (get_or c.args.bytes.now c.loop-byte.byte-index 0)) (data_text (drop (c.loop-byte.byte-index + 1) c.args.bytes.now)) here))
 
-pub loop-i-preserved : goal.loop-i-preserved
-loop-i-preserved c =
-    let here : Writing c.args.out.now c.args.at (data_text c.args.bytes.now) (fixed 16 2 (get_or c.args.bytes.now c.loop-i.i 0) ++ data_text (drop (c.loop-i.i + 1) c.args.bytes.now)) c.loop-i.place c.loop-i.out =
-    subst (λ (l : List ℕ). Writing c.args.out.now c.args.at (data_text c.args.bytes.now) l c.loop-i.place c.loop-i.out) (data_more c.args.bytes.now c.loop-i.i c.loop-i-test.true) c.loop-i.invariant.2 in (
-      omega arith,
-      c.put_fixed-next.auto.out ∙ c.loop-i.invariant.1,
-      on (fixed 16 2 (get_or c.args.bytes.now c.loop-i.i 0)) (data_text (drop (c.loop-i.i + 1) c.args.bytes.now)) here c.put_fixed-next.ensures,
+pub loop-byte-preserved : goal.loop-byte-preserved
+loop-byte-preserved c =
+    let here : Writing c.args.out.now c.args.at (data_text c.args.bytes.now) (fixed 16 2 (get_or c.args.bytes.now c.loop-byte.byte-index 0) ++ data_text (drop (c.loop-byte.byte-index + 1) c.args.bytes.now)) c.loop-byte.place c.loop-byte.out =
+    subst (λ (l : List ℕ). Writing c.args.out.now c.args.at (data_text c.args.bytes.now) l c.loop-byte.place c.loop-byte.out) (data_more c.args.bytes.now c.loop-byte.byte-index c.loop-byte-test.true) c.loop-byte.invariant.1 in (
+      c.put_fixed-place.auto.out ∙ c.loop-byte.invariant.0,
+      on (fixed 16 2 (get_or c.args.bytes.now c.loop-byte.byte-index 0)) (data_text (drop (c.loop-byte.byte-index + 1) c.args.bytes.now)) here c.put_fixed-place.ensures,
     )
 
 pub shape_of-out : goal.shape_of-out
-shape_of-out c = c.loop-i.invariant.1
+shape_of-out c = c.loop-byte.invariant.0
 
 pub returns : goal.returns
 returns c =
-    all_written (subst (λ (r : List ℕ). Writing c.args.out.now c.args.at (data_text c.args.bytes.now) r c.loop-i.place c.loop-i.out) (data_end c.args.bytes.now c.loop-i.i c.loop-i-test.false) c.loop-i.invariant.2)
+    all_written (subst (λ (r : List ℕ). Writing c.args.out.now c.args.at (data_text c.args.bytes.now) r c.loop-byte.place c.loop-byte.out) (data_end c.args.bytes.now c.loop-byte.byte-index c.loop-byte-test.false) c.loop-byte.invariant.1)

@@ -3,6 +3,3 @@ use Rattle.log_writer.proofs.put_fixed.Given as goal
 
 abbrev pub invariant-loop-k : goal.invariant-loop-k
 invariant-loop-k l = Begun l.initial.out l.at l.base l.count l.value l.out l.rest l.k
-
-abbrev pub decreases-loop-k : goal.decreases-loop-k
-decreases-loop-k l = l.k

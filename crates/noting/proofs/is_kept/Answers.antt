@@ -1,17 +1,9 @@
--- `noting::is_kept` meets its contract: the list of codes, test by test. Assumes nothing.
-use mathlib.Core.Bool.{or-false, Bool, ◌||◌}
-use mathlib.Core.Path.{sym, ap}
-use lib.Dec.{eqb}
+-- `noting::is_kept` meets its contract: some code of the list is this one. Assumes nothing.
+use mathlib.Core.Path.{◌∙◌}
 use Rattle.machine.specs.Codes.{call_codes}
-use Rattle.codec.specs.Plain.{member}
+use Rattle.noting.proofs.Laws.{any_member}
 use Rattle.noting.proofs.is_kept.Goals as goal
 
 pub returns : goal.returns
-unfolding call_codes member
-returns c =
-    let k = c.args.code in
-    ap
-    (λ (b : Bool).
-    eqb k 0x00 || (eqb k 0x01 || (eqb k 0x04 || (eqb k 0x05 || (eqb k 0x07 || (eqb k 0x09 || (eqb k 0x0A || (eqb k 0x0B
-    || (eqb k 0x0C || (eqb k 0x0D || (eqb k 0x0F || (eqb k 0x10 || (eqb k 0x11 || (eqb k 0x12 || (eqb k 0x14 || (eqb k 0x15 || b))))))))))))))))
-    (sym (or-false (eqb k 0x16)))
+unfolding call_codes
+returns c = c.contains.ensures.value ∙ any_member c.args.code _

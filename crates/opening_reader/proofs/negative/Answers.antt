@@ -5,12 +5,12 @@ use lib.ListN.{length, get_or, drop, length-drop}
 use Rattle.telegram.specs.Telegram.{negative, opening}
 use Rattle.telegram.proofs.Tests.{let_through, stopped}
 use Rattle.telegram.proofs.Opening.{kind_negative}
-use Rattle.telegram_types.specs.Face.{told, taken_said, said, opening_said, carried_by}
+use Rattle.telegram_types.specs.Face.{told, said, opening_said, carried_by}
 use Rattle.telegram_answers.proofs.Answers.{carrying, answers}
 use Rattle.opening_reader.proofs.negative.Goals as goal
 
 pub returns-then-negative : goal.returns-then-negative
-unfolding told taken_said said opening_said carried_by
+unfolding told said opening_said carried_by
 returns-then-negative c =
     let b = c.args.bytes.now in
     let id = c.args.identifier in

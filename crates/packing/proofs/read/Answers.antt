@@ -5,6 +5,7 @@ use native.Mathlib.Omega.{arith}
 use lib.ListN.{length}
 use lib.Seq.{length-take-le}
 use borrow.Author.Tests.{lt-ltb}
+use Rattle.std.proofs.lemmas.Result.{err_from_is_err_and}
 use Rattle.telegram_types.specs.Face.{refusal}
 use Rattle.telegram_record.specs.Crossing.{reading}
 use Rattle.packing.proofs.Fills.{few, unread, crossed}
@@ -15,14 +16,16 @@ pub returns-then-telegram-lt-RECORD : goal.returns-then-telegram-lt-RECORD
 unfolding reading refusal
 returns-then-telegram-lt-RECORD c = rw (lt-ltb _ 32 c.if-telegram-lt-RECORD.true)
 
-pub returns-then-code-ne-STATUS_NOERROR : goal.returns-then-code-ne-STATUS_NOERROR
-returns-then-code-ne-STATUS_NOERROR c = unread _ _ _ c.name-named.ensures c.if-code-ne-STATUS_NOERROR.true (search rules)
+pub returns-in_err-named : goal.returns-in_err-named
+returns-in_err-named c =
+    let p = err_from_is_err_and c.from_residual.result c.from_residual.ensures.1 in
+    rw (p.1, p.2) (unread _ _ _ c.in_err-named.ensures (search rules))
 
 pub overflow_cast-named : goal.overflow_cast-named
 overflow_cast-named c =
-    let m = c.name-named.result in
+    let m = c.in_ok-named.named in
     let seven : length m.payload ≡ 7 = search rules in
-    let h = few _ m c.name-named.ensures seven in
+    let h = few _ m c.in_ok-named.ensures seven in
     omega arith
 
 pub slice_bounds-copy-end-2 : goal.slice_bounds-copy-end-2
@@ -44,4 +47,4 @@ returns c =
     let room : 32 ≤ length b = search rules in
     let long : length c.pack-record.result ≡ 32 = search rules in
     let same = c.copy.ensures in
-    crossed _ _ b _ c.name-named.ensures c.if-code-ne-STATUS_NOERROR.false room (ap length same ∙ long) (same ∙ c.pack-record.ensures)
+    crossed _ _ b _ c.in_ok-named.ensures room (ap length same ∙ long) (same ∙ c.pack-record.ensures)

@@ -1,4 +1,5 @@
 -- `pending::first_pending` meets its contract. The invariant: no place below i is pending. The measure is 10 less i. Assumes nothing.
+use mathlib.Core.Path.{◌≡◌, ◌∙◌}
 use native.Mathlib.Omega.{arith}
 use borrow.Author.Count.{below_more}
 use borrow.Author.Rules.{rules}
@@ -18,4 +19,5 @@ loop-i-preserved c = (search rules, below_more _ _ c.loop-i.invariant.1 c.if-par
 
 pub returns : goal.returns
 returns c =
-    found_pending c.args.part.now c.requires c.loop-i.i (search rules) c.loop-i.invariant.1 (λ h. absurd (omega arith))
+    let e : 10 ≡ c.loop-i.i = omega arith in
+    λ flags. e ∙ found_pending c.args.part.now c.requires c.loop-i.i (search rules) c.loop-i.invariant.1 (λ h. absurd (omega arith)) flags

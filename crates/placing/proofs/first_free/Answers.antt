@@ -23,4 +23,4 @@ loop-i-preserved c =
 pub returns : goal.returns
 returns c =
     let here = c.loop-i in
-    λ flags. free_full c.args.part.now c.requires here.i flags (here.invariant.1 flags) (omega arith)
+    λ flags. omega (arith, free_full c.args.part.now c.requires here.i flags (here.invariant.1 flags) (omega arith))

@@ -13,9 +13,9 @@ pub returns-in_default : goal.returns-in_default
 returns-in_default c = turned_bad (rates_of c.args.recording.now) c.args.recording.now c.args.at c.args.mem.now (read_bad c.args.recording.now c.args.at c.read_event.result c.read_event.ensures c.in_default.is) c.put_number-after.ensures
 
 pub play_by_edition-after-requires : goal.play_by_edition-after-requires
-play_by_edition-after-requires c = (c.requires.0, good_there c.args.recording.now c.args.at c.read_event.result c.read_event.ensures c.in-Good.is, c.requires.1)
+play_by_edition-after-requires c = (c.requires.0, good_there c.args.recording.now c.args.at c.read_event.result c.read_event.ensures c.in-Some.is, c.requires.1)
 
 pub returns : goal.returns
 returns c =
     let s = c.args.recording.now in
-    turned_good (rates_of s) s c.args.at c.args.mem.now (read_good s c.args.at c.read_event.result c.read_event.ensures c.in-Good.is) (event_lends s (bytes_of_law s (λ i. (c.type_inv.recording i).fits)) c.in-Good.e) c.play_by_edition-after.ensures
+    turned_good (rates_of s) s c.args.at c.args.mem.now (read_good s c.args.at c.read_event.result c.read_event.ensures c.in-Some.is) (event_lends s (bytes_of_law s (λ i. (c.type_inv.recording i).fits)) c.in-Some.e) c.play_by_edition-after.ensures

@@ -45,27 +45,25 @@ slice_bounds-read-end c = omega (arith, records_fit c.args.channel c.args.n c.re
 
 pub overflow_cast-out : goal.overflow_cast-out
 overflow_cast-out c =
-    let r = into [] c.args.mem.now c.args.out.now c.requires.0 c.args.channel c.args.at c.requires.2 c.args.n _ c.requires.1 c.record_on-unit.ensures (c.read-a.ensures []) (omega arith) in
+    let r = into [] c.args.mem.now c.args.out.now c.requires.0 c.args.channel c.args.at c.requires.2 c.args.n _ c.requires.1 c.record_on-unit.ensures (c.read-moved.ensures []) (omega arith) in
     omega (arith, r.count, c.requires.1)
 
 pub overflow_cast-out-2 : goal.overflow_cast-out-2
-overflow_cast-out-2 c =
-    let r = into [] c.args.mem.now c.args.out.now c.requires.0 c.args.channel c.args.at c.requires.2 c.args.n _ c.requires.1 c.record_on-unit.ensures (c.read-a.ensures []) (omega arith) in
-    omega (arith, r.code)
+overflow_cast-out-2 c = omega (arith, c.code_of.ensures.1)
 
 pub bounds-out-at-2 : goal.bounds-out-at-2
 bounds-out-at-2 c = simp length-set (omega arith)
 
 pub overflow_mul-result : goal.overflow_mul-result
 overflow_mul-result c =
-    let r = into [] c.args.mem.now c.args.out.now c.requires.0 c.args.channel c.args.at c.requires.2 c.args.n _ c.requires.1 c.record_on-unit.ensures (c.read-a.ensures []) (omega arith) in
+    let r = into [] c.args.mem.now c.args.out.now c.requires.0 c.args.channel c.args.at c.requires.2 c.args.n _ c.requires.1 c.record_on-unit.ensures (c.read-moved.ensures []) (omega arith) in
     omega (arith, given [] c.args.mem.now c.args.out.now c.requires.0 c.args.channel c.args.at c.requires.2 c.args.n _ c.requires.1 c.record_on-unit.ensures r)
 
 pub overflow_add-result : goal.overflow_add-result
 overflow_add-result c =
-    let r = into [] c.args.mem.now c.args.out.now c.requires.0 c.args.channel c.args.at c.requires.2 c.args.n _ c.requires.1 c.record_on-unit.ensures (c.read-a.ensures []) (omega arith) in
+    let r = into [] c.args.mem.now c.args.out.now c.requires.0 c.args.channel c.args.at c.requires.2 c.args.n _ c.requires.1 c.record_on-unit.ensures (c.read-moved.ensures []) (omega arith) in
     omega (arith, given [] c.args.mem.now c.args.out.now c.requires.0 c.args.channel c.args.at c.requires.2 c.args.n _ c.requires.1 c.record_on-unit.ensures r)
 
 pub returns : goal.returns
 returns c =
-    λ rates. (into rates c.args.mem.now c.args.out.now c.requires.0 c.args.channel c.args.at c.requires.2 c.args.n _ c.requires.1 c.record_on-unit.ensures (c.read-a.ensures rates) (omega arith)).answered
+    λ rates. rw c.code_of.ensures.0 (into rates c.args.mem.now c.args.out.now c.requires.0 c.args.channel c.args.at c.requires.2 c.args.n _ c.requires.1 c.record_on-unit.ensures (c.read-moved.ensures rates) (omega arith)).answered

@@ -1,6 +1,10 @@
 -- `playing::take_into` meets its contract. What the part that is lent held before plays no part. Assumes nothing.
 use Prim.Native.Nat.{ℕ, ◌+◌, ◌-◌, ◌≤◌}
-use mathlib.Core.Path.{◌≡◌, sym}
+use Rattle.std.specs.Prelude.{Result}
+use mathlib.Core.Path.{◌≡◌, sym, ap, ◌∙◌}
+use Rattle.codes.specs.Code.{code_of}
+use Rattle.codes.specs.declared.Refusal.{Refusal}
+use Rattle.codes.proofs.Laws.{not_done}
 use mathlib.Core.List.{List, []}
 use native.Mathlib.Omega.{arith}
 use lib.Dec.{T}
@@ -35,13 +39,10 @@ pub slice_bounds-take-end : goal.slice_bounds-take-end
 slice_bounds-take-end c = omega (arith, record_fits c.args.channel c.record_on.ensures)
 
 pub overflow_cast-out : goal.overflow_cast-out
-overflow_cast-out c =
-    omega (arith, (into [] c.args.mem.now c.args.out.now c.requires.0 c.args.channel c.args.at c.requires.1 c.record_on.ensures (c.take-code.ensures []) (omega arith)).code)
+overflow_cast-out c = omega (arith, c.code_of.ensures.1)
 
-pub returns-then-code-ne-STATUS_NOERROR : goal.returns-then-code-ne-STATUS_NOERROR
-returns-then-code-ne-STATUS_NOERROR c =
-    λ rates. (into rates c.args.mem.now c.args.out.now c.requires.0 c.args.channel c.args.at c.requires.1 c.record_on.ensures (c.take-code.ensures rates) (omega arith)).refused c.if-code-ne-STATUS_NOERROR.true
+pub returns-in-Ok : goal.returns-in-Ok
+returns-in-Ok c = λ rates. rw c.code_of.ensures.0 ((into rates c.args.mem.now c.args.out.now c.requires.0 c.args.channel c.args.at c.requires.1 c.record_on.ensures (c.take-answer.ensures rates) (omega arith)).done (ap (λ (r : Result (Unit {0}) Refusal). code_of r) c.in-Ok.is))
 
-pub returns : goal.returns
-returns c =
-    λ rates. (into rates c.args.mem.now c.args.out.now c.requires.0 c.args.channel c.args.at c.requires.1 c.record_on.ensures (c.take-code.ensures rates) (omega arith)).done c.if-code-ne-STATUS_NOERROR.false
+pub returns-in-Err : goal.returns-in-Err
+returns-in-Err c = λ rates. rw c.code_of.ensures.0 ((into rates c.args.mem.now c.args.out.now c.requires.0 c.args.channel c.args.at c.requires.1 c.record_on.ensures (c.take-answer.ensures rates) (omega arith)).refused (λ z. not_done _ (sym (ap (λ (r : Result (Unit {0}) Refusal). code_of r) c.in-Err.is) ∙ z)))

@@ -1,24 +1,22 @@
 -- `recording::play_on` meets its contract. Assumes nothing.
 use mathlib.Core.Path.{sym}
-use Rattle.recording.proofs.Promise.{stayed, not_memory, no_room, nothing_more, bad_fits, too_long, goes_piece}
+use Rattle.recording.proofs.Promise.{not_memory, no_room, nothing_more, bad_fits, too_long, goes_piece}
 use Rattle.recording.proofs.play_on.Goals as goal
 
 pub returns-then-not-valid : goal.returns-then-not-valid
 returns-then-not-valid c =
     let a = c.args in
-    stayed c.stays.result 0x1A a.at a.mem.now a.out.now c.stays.ensures (not_memory a.mem.now a.recording.now a.at a.out.now (sym c.if-not-valid.ensures))
+    not_memory a.mem.now a.recording.now a.at a.out.now (sym c.if-not-valid.ensures)
 
 pub returns-then-out-lt-EVENT_ROOM : goal.returns-then-out-lt-EVENT_ROOM
 returns-then-out-lt-EVENT_ROOM c =
     let a = c.args in
-    let s = c.stays-then-out-lt-EVENT_ROOM in
-    stayed s.result 0x04 a.at a.mem.now a.out.now s.ensures (no_room a.mem.now a.recording.now a.at a.out.now (sym c.if-not-valid.ensures) c.if-out-lt-EVENT_ROOM.true)
+    no_room a.mem.now a.recording.now a.at a.out.now (sym c.if-not-valid.ensures) c.if-out-lt-EVENT_ROOM.true
 
 pub returns-then-at-recording : goal.returns-then-at-recording
 returns-then-at-recording c =
     let a = c.args in
-    let s = c.stays-then-at-recording in
-    stayed s.result 0x00 a.at a.mem.now a.out.now s.ensures (nothing_more a.mem.now a.recording.now a.at a.out.now (sym c.if-not-valid.ensures) c.if-out-lt-EVENT_ROOM.false c.if-at-recording.true)
+    nothing_more a.mem.now a.recording.now a.at a.out.now (sym c.if-not-valid.ensures) c.if-out-lt-EVENT_ROOM.false c.if-at-recording.true
 
 pub put_number-length-requires : goal.put_number-length-requires
 put_number-length-requires c =

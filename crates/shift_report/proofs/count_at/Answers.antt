@@ -13,17 +13,17 @@ returns-in_default c =
 
 pub count-requires : goal.count-requires
 count-requires c =
-    (c.requires.0, good_there c.args.recording.now c.args.at c.read_event.result c.read_event.ensures c.in-Good.is, c.requires.1)
+    (c.requires.0, good_there c.args.recording.now c.args.at c.read_event.result c.read_event.ensures c.in-Some.is, c.requires.1)
 
 pub play_by_edition-requires : goal.play_by_edition-requires
 play_by_edition-requires c =
-    (c.requires.0, good_there c.args.recording.now c.args.at c.read_event.result c.read_event.ensures c.in-Good.is, omega (arith, c.requires.2))
+    (c.requires.0, good_there c.args.recording.now c.args.at c.read_event.result c.read_event.ensures c.in-Some.is, omega (arith, c.requires.2))
 
 pub returns : goal.returns
 returns c =
     let s = c.args.recording.now in
     good_counted (rates_of s) s c.args.at c.args.mem.now c.args.numbers.now
-    (read_good s c.args.at c.read_event.result c.read_event.ensures c.in-Good.is)
-    (event_lends s (bytes_of_law s (λ i. (c.shared_slice_known-1.given i).fits)) c.in-Good.e)
+    (read_good s c.args.at c.read_event.result c.read_event.ensures c.in-Some.is)
+    (event_lends s (bytes_of_law s (λ i. (c.shared_slice_known-1.given i).fits)) c.in-Some.e)
     c.play_by_edition.ensures.memory
     (c.count.ensures (rates_of s))

@@ -5,14 +5,14 @@ use Rattle.number.specs.Reads.{◌>>=◌, done, bad, where_true, only}
 use Rattle.store_records.proofs.Parts.{number_good, number_bad}
 use Rattle.store_check.proofs.number_within.Goals as goal
 
-pub returns-in_default : goal.returns-in_default
+pub returns-in_err-number : goal.returns-in_err-number
 unfolding only ◌>>=◌ bind
-returns-in_default c = rw (number_bad _ _ _ c.number_at.ensures c.in_default.is)
+returns-in_err-number c = rw (c.from_residual.ensures, number_bad _ _ c.in_err-number.ensures)
 
 pub returns-then-not-between : goal.returns-then-not-between
 unfolding only ◌>>=◌ bind where_true bad
-returns-then-not-between c = rw (number_good _ _ _ c.number_at.ensures c.in-Value.is, sym c.between.ensures ∙ c.if-not-between.true)
+returns-then-not-between c = rw (number_good _ _ c.in_ok-number.ensures, sym c.between.ensures ∙ c.if-not-between.true)
 
 pub returns : goal.returns
 unfolding only ◌>>=◌ bind where_true done
-returns c = rw (number_good _ _ _ c.number_at.ensures c.in-Value.is, sym c.between.ensures ∙ c.if-not-between.false)
+returns c = rw (number_good _ _ c.in_ok-number.ensures, sym c.between.ensures ∙ c.if-not-between.false)

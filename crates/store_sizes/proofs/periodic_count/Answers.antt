@@ -1,35 +1,22 @@
--- `store_sizes::periodic_count` meets its contract. The invariant: what is counted before place i, and what is left. Assumes nothing.
-use mathlib.Core.Path.{ap, sym, ◌∙◌}
+-- `store_sizes::periodic_count` meets its contract: what is left at a place is how many periodics there are from there on. Assumes nothing.
 use Prim.Native.Nat.{ℕ, ◌+◌}
-use mathlib.Core.Bool.{not}
-use mir.Val.{bool_byte}
-use lib.Dec.{eqb}
+use mathlib.Core.Path.{◌≡◌, sym, ap, ◌∙◌}
 use native.Mathlib.Omega.{arith}
 use borrow.Author.Rules.{rules}
 use Rattle.store_sizes.specs.Entries.{taken_from, periodics_of}
-use Rattle.store_sizes.proofs.Turns.{sum_none, sum_more, sum_all, test_small}
-use Rattle.store_sizes.proofs.Periodics.{periodics_turn, periodics_end}
+use Rattle.store_sizes.proofs.Turns.{taken_few}
+use Rattle.store_sizes.proofs.Periodics.{ten_periodics, periodics_turn, periodics_end}
 use Rattle.store_sizes.proofs.periodic_count.Goals as goal
 
-pub loop-i-init : goal.loop-i-init
-loop-i-init c = sum_none _
-
-pub word_at-requires : goal.word_at-requires
-word_at-requires c = omega (arith, c.requires.long)
-
-pub overflow_cast-count : goal.overflow_cast-count
-overflow_cast-count c = tt
-
-pub overflow_add-count : goal.overflow_add-count
-overflow_add-count c = record { fits = omega (arith, c.loop-i.invariant.small, test_small (not (eqb c.word_at.result 0))) }
-
-pub loop-i-preserved : goal.loop-i-preserved
-loop-i-preserved c =
-    let here = c.loop-i in
+counted : (c : goal.After-sum) → c.sum.result ≡ taken_from 0 (periodics_of c.args.part.now)
+counted c =
     let m = c.args.part.now in
-    sum_more (λ (k : ℕ). taken_from k (periodics_of m)) here.invariant (search rules) (bool_byte (not (eqb c.word_at.result 0))) (omega (arith, test_small (not (eqb c.word_at.result 0))))
-    (periodics_turn m c.requires here.i (search rules) ∙ ap (λ (k : ℕ). bool_byte (not (eqb k 0)) + taken_from (here.i + 1) (periodics_of m)) (sym c.word_at.ensures.0))
+    c.sum.ensures (λ (k : ℕ). taken_from k (periodics_of m))
+    (λ i x h p. periodics_turn m c.requires i h ∙ ap (λ (n : ℕ). n + taken_from (i + 1) (periodics_of m)) (sym (search rules)))
+    (periodics_end m c.requires)
+
+pub overflow_cast-result : goal.overflow_cast-result
+overflow_cast-result c = record { fits = omega (arith, counted c, taken_few (periodics_of c.args.part.now), ten_periodics c.args.part.now c.requires) }
 
 pub returns : goal.returns
-returns c =
-    sum_all (λ (k : ℕ). taken_from k (periodics_of c.args.part.now)) c.loop-i.invariant (search rules) (periodics_end c.args.part.now c.requires)
+returns c = counted c

@@ -1,11 +1,13 @@
 -- `talks::code_in` meets its contract: its tests are those of a start, in their order. Assumes nothing.
-use mathlib.Core.Path.{sym, ap, ap₂, ◌∙◌}
+use mathlib.Core.Path.{refl, sym, ap, ap₂, ◌∙◌}
 use mathlib.Core.List.{[], ◌∷◌}
 use Prim.Native.Nat.{◌+◌}
 use lib.Dec.{eqb}
 use Rattle.iso_layout.specs.Sizes.{talks_at, talk_size}
 use mathlib.Core.Bool.{Bool, not, ◌&&◌}
 use native.Mathlib.Omega.{arith}
+use Rattle.std.proofs.lemmas.Result.{err_from_is_err_and}
+use Rattle.codes.proofs.Laws.{not_done}
 use lib.ListN.{length, get_or}
 use Rattle.machine.specs.Codes.{code_of}
 use Rattle.talks.proofs.Laws.{records_long, short_there, records_refuse, places_say}
@@ -31,12 +33,14 @@ names-f-requires c =
     let a = c.args in
     (records_long (length a.mask.now) (length a.pattern.now) (length a.flow.now) c.if-mask-pattern.false).1.1
 
-pub returns-then-code-ne-STATUS_NOERROR : goal.returns-then-code-ne-STATUS_NOERROR
-returns-then-code-ne-STATUS_NOERROR c =
+pub returns-in_err-start_code : goal.returns-in_err-start_code
+returns-in_err-start_code c =
     let a = c.args in
+    let p = err_from_is_err_and c.from_residual.result c.from_residual.ensures.1 in
     λ o e.
-    records_refuse a.r.now c.requires a.kind a.mask.now a.pattern.now a.flow.now c.if-mask-pattern.false _ _ _ c.names-m.ensures c.names-p.ensures
-    c.names-f.ensures _ c.word_at.ensures.0 _ c.start_code-code.ensures c.if-code-ne-STATUS_NOERROR.true o e
+    rw (p.1, p.2)
+    (records_refuse a.r.now c.requires a.kind a.mask.now a.pattern.now a.flow.now c.if-mask-pattern.false _ _ _ c.names-m.ensures c.names-p.ensures
+    c.names-f.ensures _ c.word_at.ensures.0 _ c.in_err-start_code.ensures (not_done c.in_err-start_code.field-0.0) o e)
 
 pub returns-then-first-second : goal.returns-then-first-second
 unfolding code_of
@@ -45,7 +49,7 @@ returns-then-first-second c =
     λ o e.
     sym (ap (λ (u : Bool). code_of ((u, 0x18) ∷ ((not (eqb (get_or a.r.now talks_at 0) 0) && not (eqb (get_or a.r.now (talks_at + talk_size) 0) 0)), 0x0C) ∷ [])) c.if-first-second.true) ∙
     places_say a.r.now c.requires a.kind a.mask.now a.pattern.now a.flow.now c.if-mask-pattern.false _ _ _ c.names-m.ensures c.names-p.ensures
-    c.names-f.ensures _ c.word_at.ensures.0 _ c.start_code-code.ensures c.if-code-ne-STATUS_NOERROR.false c.is_known-first.result c.is_known-second.result c.is_known-first.ensures c.is_known-second.ensures o e
+    c.names-f.ensures _ c.word_at.ensures.0 0 c.in_ok-start_code.ensures refl c.is_known-first.result c.is_known-second.result c.is_known-first.ensures c.is_known-second.ensures o e
 
 pub bounds-r-10 : goal.bounds-r-10
 bounds-r-10 c =
@@ -62,7 +66,7 @@ returns-then-r c =
     λ o e.
     sym (ap₂ (λ (u v : Bool). code_of ((u, 0x18) ∷ (v, 0x0C) ∷ [])) c.if-first-second.false c.if-r.true) ∙
     places_say a.r.now c.requires a.kind a.mask.now a.pattern.now a.flow.now c.if-mask-pattern.false _ _ _ c.names-m.ensures c.names-p.ensures
-    c.names-f.ensures _ c.word_at.ensures.0 _ c.start_code-code.ensures c.if-code-ne-STATUS_NOERROR.false c.is_known-first.result c.is_known-second.result c.is_known-first.ensures c.is_known-second.ensures o e
+    c.names-f.ensures _ c.word_at.ensures.0 0 c.in_ok-start_code.ensures refl c.is_known-first.result c.is_known-second.result c.is_known-first.ensures c.is_known-second.ensures o e
 
 pub returns : goal.returns
 unfolding code_of
@@ -71,4 +75,4 @@ returns c =
     λ o e.
     sym (ap₂ (λ (u v : Bool). code_of ((u, 0x18) ∷ (v, 0x0C) ∷ [])) c.if-first-second.false c.if-r.false) ∙
     places_say a.r.now c.requires a.kind a.mask.now a.pattern.now a.flow.now c.if-mask-pattern.false _ _ _ c.names-m.ensures c.names-p.ensures
-    c.names-f.ensures _ c.word_at.ensures.0 _ c.start_code-code.ensures c.if-code-ne-STATUS_NOERROR.false c.is_known-first.result c.is_known-second.result c.is_known-first.ensures c.is_known-second.ensures o e
+    c.names-f.ensures _ c.word_at.ensures.0 0 c.in_ok-start_code.ensures refl c.is_known-first.result c.is_known-second.result c.is_known-first.ensures c.is_known-second.ensures o e

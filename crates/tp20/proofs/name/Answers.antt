@@ -5,7 +5,7 @@ use Rattle.telegram_answers.proofs.Answers.{unanswered, named}
 use Rattle.tp20.proofs.name.Goals as goal
 
 pub returns-in_default : goal.returns-in_default
-returns-in_default c = c.nothing.ensures ∙ ap naming (unanswered _ _ c.read-answer.ensures c.in_default.is)
+returns-in_default c = c.nothing.ensures ∙ ap naming (unanswered c.in_default.field-0 _ c.in_default.ensures)
 
 pub returns : goal.returns
-returns c = named _ _ _ _ c.read-answer.ensures c.in-Yes.is c.numbers-numbers.ensures
+returns c = named c.in-Ok.answer _ _ c.in-Ok.ensures c.numbers-numbers.ensures

@@ -6,5 +6,5 @@ use Rattle.trace_events.proofs.given_records.Goals as goal
 
 pub overflow_mul-n : goal.overflow_mul-n
 overflow_mul-n g c =
-    let few : c.args.answer.value ≤ 4294967295 = omega arith in
+    let few : c.args.moved.count ≤ 4294967295 = omega arith in
     record { fits = omega (arith, mul-le-mul few (record_fits _ c.record_on.ensures)) }

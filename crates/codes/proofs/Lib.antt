@@ -1,0 +1,3 @@
+-- What is proved of codes. Assumes nothing.
+pub mod Laws
+pub mod Numbers

@@ -1,6 +1,0 @@
--- `trace_words::word_start` ends: each turn passes a byte.
-use Rattle.std.proofs.Common.{◌-◌, length}
-use Rattle.trace_words.proofs.word_start.Given as goal
-
-abbrev pub decreases-loop-at : goal.decreases-loop-at
-decreases-loop-at l = length l.words - l.at
