@@ -1,20 +1,22 @@
-// The arguments of the events that lend bytes.
+// The arguments of the events that lend bytes. Where they are bad the reader stays where it is.
 #![tactic(auto)]
 
 ghost use Rattle.events.specs.Found.{ReadsArguments};
-ghost use Rattle.reader.specs.Cursor.{behind};
+ghost use Rattle.reader.specs.Cursor.{behind, Leaves};
 
 use events::{Event, Giving, Plain};
 use reader::Reader;
 
 // The arguments of a write.
 pub fn write(r: &mut Reader) -> Option<Event>
-    ensures { ReadsArguments 10 r.old.recording.now r.old.at (behind result r.new.at) }
+    ensures { ReadsArguments 10 r.old.recording.now r.old.at (behind result r.new.at) × Leaves result r.old r.new }
 {
-    let channel = r.next_number()?;
-    let n = event_parts::at_most64(r)?;
+    let mut ahead = *r;
+    let channel = ahead.next_number()?;
+    let n = event_parts::at_most64(&mut ahead)?;
     let size = recording_sizes::record_on(channel);
-    let (from, end) = r.next_bytes(size * n as usize)?;
+    let (from, end) = ahead.next_bytes(size * n as usize)?;
+    *r = ahead;
     Some(Event::Write {
         channel,
         n,
@@ -25,13 +27,15 @@ pub fn write(r: &mut Reader) -> Option<Event>
 
 // The arguments of a bus frame.
 pub fn frame(r: &mut Reader) -> Option<Event>
-    ensures { ReadsArguments 5 r.old.recording.now r.old.at (behind result r.new.at) }
+    ensures { ReadsArguments 5 r.old.recording.now r.old.at (behind result r.new.at) × Leaves result r.old r.new }
 {
-    let line = r.next_number()?;
-    let wide = r.next_number()?;
-    let id = r.next_number()?;
-    let n = event_parts::at_most64(r)?;
-    let (from, end) = r.next_bytes(n as usize)?;
+    let mut ahead = *r;
+    let line = ahead.next_number()?;
+    let wide = ahead.next_number()?;
+    let id = ahead.next_number()?;
+    let n = event_parts::at_most64(&mut ahead)?;
+    let (from, end) = ahead.next_bytes(n as usize)?;
+    *r = ahead;
     Some(Event::Code(Plain::Frame {
         line,
         wide,
@@ -43,14 +47,16 @@ pub fn frame(r: &mut Reader) -> Option<Event>
 
 // The arguments of a start of a filter: a mask and a pattern, and on channels 5 to 8 a flow.
 pub fn filter(r: &mut Reader) -> Option<Event>
-    ensures { ReadsArguments 6 r.old.recording.now r.old.at (behind result r.new.at) }
+    ensures { ReadsArguments 6 r.old.recording.now r.old.at (behind result r.new.at) × Leaves result r.old r.new }
 {
-    let channel = r.next_number()?;
-    let kind = r.next_number()?;
+    let mut ahead = *r;
+    let channel = ahead.next_number()?;
+    let kind = ahead.next_number()?;
     let size = recording_sizes::record_on(channel);
-    let (mask, pattern) = r.next_bytes(size)?;
-    let (_, flow) = r.next_bytes(size)?;
+    let (mask, pattern) = ahead.next_bytes(size)?;
+    let (_, flow) = ahead.next_bytes(size)?;
     if !recording_sizes::on_iso(channel) {
+        *r = ahead;
         return Some(Event::Number(Giving::StartFilter {
             channel,
             kind,
@@ -59,7 +65,8 @@ pub fn filter(r: &mut Reader) -> Option<Event>
             end: flow,
         }));
     }
-    let (_, end) = r.next_bytes(size)?;
+    let (_, end) = ahead.next_bytes(size)?;
+    *r = ahead;
     Some(Event::Number(Giving::StartFlow {
         channel,
         kind,
@@ -72,12 +79,14 @@ pub fn filter(r: &mut Reader) -> Option<Event>
 
 // The arguments of a start of a periodic.
 pub fn periodic(r: &mut Reader) -> Option<Event>
-    ensures { ReadsArguments 8 r.old.recording.now r.old.at (behind result r.new.at) }
+    ensures { ReadsArguments 8 r.old.recording.now r.old.at (behind result r.new.at) × Leaves result r.old r.new }
 {
-    let channel = r.next_number()?;
+    let mut ahead = *r;
+    let channel = ahead.next_number()?;
     let size = recording_sizes::record_on(channel);
-    let (from, end) = r.next_bytes(size)?;
-    let interval = r.next_number()?;
+    let (from, end) = ahead.next_bytes(size)?;
+    let interval = ahead.next_number()?;
+    *r = ahead;
     Some(Event::Number(Giving::StartPeriodic {
         channel,
         from,

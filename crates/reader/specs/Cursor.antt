@@ -29,7 +29,13 @@ unfoldable pub given : {A : Type 0} → Option A → ℕ → maybe.Option (A × 
 given None at = maybe.none
 given (Some a) at = maybe.some (a, at)
 
--- A READER GAVE what some parts are that lie one behind the other, and is behind them; or one of them is bad
+-- WHERE A READER IS LEFT: as it was where it gave nothing, and else on the same recording
+abbrev pub Leaves : {A : Type 0} → Option A → Reader → Reader → Type 0
+Leaves None before after = after ≡ before
+Leaves (Some a) before after = after.recording.now ≡ before.recording.now
+
+-- A READER GAVE what some parts are that lie one behind the other, and is behind them; or one of them is bad, and it is as it was
 pub record Gave {A : Type 0} (p : Reads A) (before : Reader) (a : Option A) (after : Reader) : Type 0 where
   pub is : given a after.at ≡ p before.recording.now before.at
+  pub left : Leaves a before after
   pub on : after.recording.now ≡ before.recording.now

@@ -16,12 +16,12 @@ pub returns-in_err-event : goal.returns-in_err-event
 unfolding ◌>>=◌ bind read_event read_values behind
 returns-in_err-event c =
     let to_kind = rw c.new-r.ensures at (read_good number c.new-r.result c.in_ok-kind.ensures) in
-    let no = rw to_kind.on at c.in_err-event.ensures in
+    let no = rw to_kind.on at c.in_err-event.ensures.0 in
     rw c.from_residual-in_err-event.ensures (record { is = rw to_kind.is no.is; says = rw to_kind.is no.says; there = tt })
 
 pub returns : goal.returns
 unfolding ◌>>=◌ bind read_event read_values behind
 returns c =
     let to_kind = rw c.new-r.ensures at (read_good number c.new-r.result c.in_ok-kind.ensures) in
-    let event = rw to_kind.on at c.in_ok-event.ensures in
+    let event = rw to_kind.on at c.in_ok-event.ensures.0 in
     record { is = rw to_kind.is event.is; says = rw to_kind.is event.says; there = event.there }
