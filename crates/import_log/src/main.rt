@@ -20,7 +20,7 @@ fn tell(out: &impl Print, said: &impl Print, start: u64, log: &[u8]) -> io::Resu
         return println!(said; "import: standard output: {e}");
     }
     if let Some(at) = done.stopped {
-        return log_words::stopped(said, b"import: ", at.line, at.why);
+        return log_words::stopped(said, b"import: ", at.line, Some(at.why));
     }
     if let Some(line) = part.line {
         return log_words::unread(said, b"import: ", line);

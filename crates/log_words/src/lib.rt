@@ -40,14 +40,20 @@ pub fn start(rt: &impl Env, out: &impl Print, label: &[u8]) -> io::Result<Option
     }
 }
 
-// Says which line stopped an import and why, on a line of its own behind a label.
-pub fn stopped(out: &impl Print, label: &[u8], line: usize, why: Stop) -> io::Result<()> {
+// Says which line stopped an import and why, if one did, on a line of its own behind a label.
+pub fn stopped(out: &impl Print, label: &[u8], line: usize, why: Option<Stop>) -> io::Result<()> {
+    let Some(why) = why else {
+        return Ok(());
+    };
     out.write_all(label)?;
     println!(out; "line {line}: {why}")
 }
 
-// Says from which line on a log was not read, on a line of its own behind a label.
+// Says from which line on a log was not read, if that is so, on a line of its own behind a label. No line has the number 0.
 pub fn unread(out: &impl Print, label: &[u8], line: usize) -> io::Result<()> {
+    if line == 0 {
+        return Ok(());
+    }
     out.write_all(label)?;
     println!(out; "line {line}: not read, the log has more than 262144 bytes")
 }

@@ -23,7 +23,7 @@ pub fn fewest(a: u32, b: u32) -> u32
 
 // Why a read that was asked for n records and gave m gave no more.
 #[tactic(auto, unfolding(machine::specs::Channel::read_code))]
-fn read_code(lost: u8, n: u32, m: u32) -> Result<(), Refusal>
+pub fn read_code(lost: u8, n: u32, m: u32) -> Result<(), Refusal>
     ensures { code_of result ≡ read_code (eqb 1 lost) n m }
 {
     if 1 == lost {

@@ -20,7 +20,7 @@ fn play(to: &impl Print, mem: &mut [u8], recording: &[u8], out: &mut [u8]) -> io
     while at < recording.len() {
         // the memory is valid and there is room: nothing is refused
         let Ok(played) = recording::play_on(mem, recording, at, out) else {
-            return Ok(());
+            unreachable!();
         };
         to.write_all(input::first(out, played.length))?;
         at = played.at;

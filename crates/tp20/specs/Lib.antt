@@ -1,0 +1,2 @@
+-- What is said of a naming with its code. Assumes nothing.
+pub mod Named
