@@ -1,1 +1,2 @@
+pub mod CopyLoop
 pub mod Writes

@@ -11,7 +11,10 @@ pub fn put(bytes: &[u8], buf: &mut [u8])
     requires { length bytes.now ≤ length buf.old }
     ensures { buf.new ≡ over bytes.now buf.old }
 {
-    buf[..bytes.len()].copy_from_slice(bytes);
+    // eight bytes at most: a call of the library's copy would cost more than they do
+    for i in 0..bytes.len() {
+        buf[i] = bytes[i];
+    }
 }
 
 // Fields that the tables don't allow: 0x0A.
