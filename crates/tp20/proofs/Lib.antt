@@ -1,3 +1,3 @@
-pub mod Named
+pub mod Naming
 pub mod RoundTrip
 pub mod Settled

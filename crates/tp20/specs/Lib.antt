@@ -1,2 +1,2 @@
 -- What is said of a naming with its code. Assumes nothing.
-pub mod Named
+pub mod Naming

@@ -6,7 +6,7 @@ use Rattle.codes.specs.declared.Refusal.{Refusal}
 use Rattle.telegram.specs.Telegram.{AnyTelegram}
 use Rattle.telegram_types.specs.declared.Named.{Named}
 use Rattle.telegram_types.specs.Face.{naming}
-use Rattle.tp20.specs.Named.{line, line_of}
+use Rattle.tp20.specs.Naming.{line, line_of}
 
 pub named_line : (x : Option AnyTelegram) (r : Result Named Refusal) → r ≡ naming x → line r ≡ line_of x
 unfolding naming line line_of
