@@ -21,9 +21,10 @@ fn put(mut bytes: [u8; 32], at: usize, number: u32) -> [u8; 32]
 fn put_carried(len: u8, payload: [u8; 7]) -> [u8; 32]
     ensures { result ≡ zeros 24 ++ len ∷ payload }
 {
+    // eight bytes are one word of the machine; a copy of seven stays in memory at each step
+    let [a, b, c, d, e, f, g] = payload;
     let mut bytes = [0u8; 32];
-    octets::copy(&mut bytes[25..32], &payload);
-    bytes[24] = len;
+    octets::copy(&mut bytes[24..32], &[len, a, b, c, d, e, f, g]);
     bytes
 }
 
