@@ -45,6 +45,7 @@ fn begin(mem: &mut [u8], channel: u32, n: usize) -> Result<(), Refusal>
 }
 
 // Sets one parameter, on a memory known to be valid.
+#[tactic(auto, unfolding(machine::specs::Codes::two_rates))]
 fn set_one(mem: &mut [u8], channel: u32, parameter: u32, value: u32) -> Result<(), Refusal>
     requires { T (valid mem.old) }
     ensures { gives (code_of result) 0 [] mem.new ≡ outcome two_rates mem.old (call channel (set_parameter parameter value)) }
